@@ -1,0 +1,7 @@
+pub mod Bank
+pub mod Bus
+pub mod Bytes
+pub mod Memory
+pub mod Ram
+pub mod Rom
+pub mod Void
