@@ -3,19 +3,19 @@ use mathlib.Core.Path.{_≡_, refl, sym, ap, subst, _∙_}
 use mathlib.Core.Bool.{Bool, true, false, cond, _&&_}
 use mathlib.Core.List.{List, [], _∷_, _++_}
 use mathlib.Core.Logic.{_≢_, ⊎-elim}
-use Prim.Native.Nat.{ℕ, zero, suc, _+_, _*_, _/_, _%_, _^_, _≤_, _<_}
+use Prim.Native.Nat.{ℕ, zero, suc, _+_, _*_, _/_, _%_, _^_, min, _≤_, _<_}
 use native.Mathlib.Omega.{arith}
 use lib.Dec.{eqb, leb, ltb}
 use lib.ListN.{length, getD, set, take, drop, length-set}
-use lib.Seq.{getD-set-same, getD-set-other}
+use Rattle.std.proofs.shelf.Lists.{getD-set-same, getD-set-other, drop-set-lt}
 use Rattle.std.proofs.shelf.Bits.{mod-pow-add}
-use Rattle.std.proofs.shelf.Tests.{true≢false, eqb-true, eqb-false, cases-bool, and-parts, cond-true, cond-false, eq-eqb, ne-eqb, leb-true}
+use Rattle.std.proofs.shelf.Tests.{true≢false, eqb-true, eqb-false, cases-bool, and-parts, cond-true, cond-false, eq-eqb, ne-eqb, leb-true, ltb-true}
 use Rattle.std.specs.declared.option.Option.{Option}
 use Rattle.std.specs.declared.option.Option.the-variants.{None, Some}
 use Rattle.std.specs.declared.result.Result.{Result}
 use Rattle.std.specs.declared.result.Result.the-variants.{Ok, Err}
 use Rattle.board.specs.declared.bus.BusFault.{BusFault}
-use Rattle.board.specs.Bytes.{word-of, big-endian, inside, word-in, placed, bytes-of, with-word}
+use Rattle.board.specs.Bytes.{word-of, big-endian, inside, word-in, placed, bytes-of, with-word, words-in, tail}
 use Rattle.board.specs.declared.bus.Refusal.the-variants.{Misaligned, NoWord}
 use Rattle.board.specs.Memory.{Meaning, aligned, refuse, poked, left, stored}
 use Rattle.board.specs.Ram.{ram, bytes-left, poked-bytes}
@@ -125,10 +125,30 @@ module _ (bs : List ℕ) (a w : ℕ) (small : w < 2 ^ 32) (al : aligned a ≡ tr
   unfolding after
   bytes-are = written-is bs a _ _ _ _ fits ∙ ap (λ r. bytes-left r bs a w) answer-is
 
+  past-writes : (n : ℕ) → a + 4 ≤ n → drop n after ≡ drop n bs
+  unfolding after
+  past-writes n h =
+      let h0 : a < n = omega arith in
+      let h1 : a + 1 < n = omega arith in
+      let h2 : a + 2 < n = omega arith in
+      let h3 : a + 3 < n = omega arith in
+      rw (drop-set-lt, drop-set-lt, drop-set-lt, drop-set-lt) refl
+
+  tail-is : tail after ≡ tail bs
+  unfolding after
+  tail-is =
+      let b = ltb-true a (2 ^ 32) (and-parts (leb (a + 4) (length bs)) (ltb a (2 ^ 32)) ins .1) in
+      let m = eqb-true (a % 4) 0 al in
+      let f = fits in
+      let past : a + 4 ≤ 4 * words-in bs = omega arith in
+      ap (λ n. drop (4 * min (n / 4) (2 ^ 30)) after) same-length
+      ∙ past-writes (4 * words-in bs) past
+
 -- what a poke that finds its index answers, and leaves of the map and of the bytes: h holds the four bytes of w
 pub record Accepted (bs h : List ℕ) (a at w : ℕ) : Type 0 where
   pub answer : Ok tt ≡ poked (ram bs) a
   pub left : ram (written bs at (getD h 0 0) (getD h 1 0) (getD h 2 0) (getD h 3 0)) ≡ stored (ram bs) a w
+  pub same : tail (written bs at (getD h 0 0) (getD h 1 0) (getD h 2 0) (getD h 3 0)) ≡ tail bs
   pub bytes : written bs at (getD h 0 0) (getD h 1 0) (getD h 2 0) (getD h 3 0) ≡ poked-bytes bs a w
 
 pub accepted : (bs h : List ℕ) (a at w : ℕ) → w < 2 ^ 32 → h ≡ bytes-of w → placed (length bs) a ≡ Ok at → Accepted bs h a at w
@@ -137,4 +157,4 @@ accepted bs h a at w small holds ok =
     let p = placed-ok (length bs) a at ok in
     subst (λ x. Accepted bs h a x w) (sym (p .0))
     (subst (λ x. Accepted bs x a a w) (sym holds)
-    (record { answer = answer-is bs a w small (p .1) (p .2); left = map-is bs a w small (p .1) (p .2); bytes = bytes-are bs a w small (p .1) (p .2) }))
+    (record { answer = answer-is bs a w small (p .1) (p .2); left = map-is bs a w small (p .1) (p .2); same = tail-is bs a w small (p .1) (p .2); bytes = bytes-are bs a w small (p .1) (p .2) }))

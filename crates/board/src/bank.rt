@@ -1,4 +1,5 @@
 // Banks: one memory in front of another.
+ghost use mathlib.Core.List.{_++_};
 ghost use mathlib.Core.Path.{_≡_};
 ghost use Rattle.board.specs.Bank.{bank, picked, shielded};
 ghost use Rattle.board.specs.Memory.{peeked, poked, stored};
@@ -42,6 +43,7 @@ fn poke_shielded<M: Memory>(
 ) -> Result<(), BusFault>
     ensures answer { λ r. ⌜ r ≡ poked (shielded protect (M·Memory .meaning (now (memory .entry)))) address ⌝ }
     ensures left { λ _. ⌜ shielded protect (M·Memory .meaning (now (memory .exit))) ≡ stored (shielded protect (M·Memory .meaning (now (memory .entry)))) address word ⌝ }
+    ensures same { λ _. ⌜ M·Memory .spare (now (memory .exit)) ≡ M·Memory .spare (now (memory .entry)) ⌝ }
 {
     if protect {
         memory.peek(address)?;
@@ -67,6 +69,8 @@ impl<A, B> Bank<A, B> {
 
 pub impl<A: Memory, B: Memory> Memory for Bank<A, B> as BankMemory {
     ghost meaning = { λ b. bank (b .base) (b .mask) (b .protect) (A·Memory .meaning (b .first)) (B·Memory .meaning (b .second)) };
+
+    ghost spare = { λ b. A·Memory .spare (b .first) ++ B·Memory .spare (b .second) };
 
     fn peek(&self, address: u32) -> Result<u32, BusFault> {
         match pick(self.base, self.mask, address) {

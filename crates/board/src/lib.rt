@@ -1,8 +1,10 @@
 // Board memories behind one trait: RAM, ROM, void and banks of them.
 pub mod bank;
 pub mod bus;
-pub mod bytes;
+mod bytes;
 pub mod memory;
 pub mod ram;
 pub mod rom;
+#[cfg(test)]
+mod tests;
 pub mod void;

@@ -1,6 +1,7 @@
 // RAM: bytes lent for writing.
 ghost use mathlib.Core.Path.{_≡_};
 ghost use denote.Ref.{now, name};
+ghost use Rattle.board.specs.Bytes.{tail};
 ghost use Rattle.board.specs.Memory.{peeked, poked, stored};
 ghost use Rattle.board.specs.Ram.{ram, poked-bytes};
 use crate::bus::BusFault;
@@ -25,6 +26,8 @@ impl<'a> Ram<'a> {
 pub impl<'a> Memory for Ram<'a> as RamMemory {
     ghost meaning = { λ m. ram (now (m .bytes)) };
 
+    ghost spare = { λ m. tail (now (m .bytes)) };
+
     fn peek(&self, address: u32) -> Result<u32, BusFault>
         ensures { λ r. ⌜ r ≡ peeked (ram (now (now (self .entry) .bytes))) address ⌝ }
     {
@@ -34,6 +37,7 @@ pub impl<'a> Memory for Ram<'a> as RamMemory {
     fn poke(&mut self, address: u32, word: u32) -> Result<(), BusFault>
         ensures answer { λ r. ⌜ r ≡ poked (ram (now (now (self .entry) .bytes))) address ⌝ }
         ensures left { λ _. ⌜ ram (now (now (self .exit) .bytes)) ≡ stored (ram (now (now (self .entry) .bytes))) address word ⌝ }
+        ensures same { λ _. ⌜ tail (now (now (self .exit) .bytes)) ≡ tail (now (now (self .entry) .bytes)) ⌝ }
         ensures bytes { λ _. ⌜ now (now (self .exit) .bytes) ≡ poked-bytes (now (now (self .entry) .bytes)) address word ⌝ }
         ensures lent { λ _. ⌜ name (now (self .exit) .bytes) ≡ name (now (self .entry) .bytes) ⌝ }
     {

@@ -1,6 +1,7 @@
 // ROM: bytes lent for reading.
 ghost use mathlib.Core.Path.{_≡_};
 ghost use denote.Ref.{now};
+ghost use Rattle.board.specs.Bytes.{tail};
 ghost use Rattle.board.specs.Memory.{peeked, poked, stored};
 ghost use Rattle.board.specs.Rom.{rom};
 use crate::bus::BusFault;
@@ -25,6 +26,8 @@ impl<'a> Rom<'a> {
 pub impl<'a> Memory for Rom<'a> as RomMemory {
     ghost meaning = { λ m. rom (now (m .bytes)) };
 
+    ghost spare = { λ m. tail (now (m .bytes)) };
+
     fn peek(&self, address: u32) -> Result<u32, BusFault>
         ensures { λ r. ⌜ r ≡ peeked (rom (now (now (self .entry) .bytes))) address ⌝ }
     {
@@ -34,6 +37,7 @@ pub impl<'a> Memory for Rom<'a> as RomMemory {
     fn poke(&mut self, address: u32, word: u32) -> Result<(), BusFault>
         ensures answer { λ r. ⌜ r ≡ poked (rom (now (now (self .entry) .bytes))) address ⌝ }
         ensures left { λ _. ⌜ rom (now (now (self .exit) .bytes)) ≡ stored (rom (now (now (self .entry) .bytes))) address word ⌝ }
+        ensures same { λ _. ⌜ tail (now (now (self .exit) .bytes)) ≡ tail (now (now (self .entry) .bytes)) ⌝ }
         ensures bytes { λ _. ⌜ now (now (self .exit) .bytes) ≡ now (now (self .entry) .bytes) ⌝ }
     {
         bytes::place(self.bytes.len(), address)?;
