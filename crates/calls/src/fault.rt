@@ -1,0 +1,103 @@
+// How a call is refused.
+ghost use mathlib.Core.Path.{_≡_};
+ghost use Rattle.calls.specs.Fault.{outside, figures-of, level-number, bus-number};
+use board::bus::BusFault;
+use board::bus::BusFaultDebug;
+use board::bus::BusFaultEq;
+use board::bus::BusFaultPartialEq;
+use board::bus::Refusal;
+
+// Where in a tablewalk a fault arose.
+#[derive(Clone, Copy, Debug, PartialEq, Eq)]
+pub enum Level {
+    Outside,
+    First,
+    Second,
+}
+
+// What refused.
+#[derive(Clone, Copy, Debug, PartialEq, Eq)]
+pub enum Layer {
+    Bus,
+    Script,
+}
+
+// A refusal with its place.
+#[derive(Clone, Copy, Debug, PartialEq, Eq)]
+pub enum Fault {
+    // a memory refused; the place is the address that was put to it
+    Bus { fault: BusFault, level: Level },
+    // a line of the script does not read; the place is its number, counted from 1
+    Unreadable { line: u32 },
+    // the script is longer than is read
+    TooLong,
+}
+
+// The four figures by which a fault is told.
+#[derive(Clone, Copy, Debug, PartialEq, Eq)]
+pub struct Figures {
+    pub number: u32,
+    pub layer: Layer,
+    pub level: u32,
+    pub place: u32,
+}
+
+impl Level {
+    fn number(self) -> u32
+        ensures { λ r. ⌜ r ≡ level-number self ⌝ }
+    {
+        match self {
+            Level::Outside => 0,
+            Level::First => 1,
+            Level::Second => 2,
+        }
+    }
+}
+
+fn bus_number(refusal: Refusal) -> u32
+    ensures { λ r. ⌜ r ≡ bus-number refusal ⌝ }
+{
+    match refusal {
+        Refusal::Misaligned => 14,
+        Refusal::NoWord => 15,
+        Refusal::NotStorable => 16,
+    }
+}
+
+impl Fault {
+    // The number, layer, level and place of the fault.
+    pub fn figures(self) -> Figures
+        ensures { λ r. ⌜ r ≡ figures-of self ⌝ }
+    {
+        match self {
+            Fault::Bus { fault, level } => Figures {
+                number: bus_number(fault.refusal),
+                layer: Layer::Bus,
+                level: level.number(),
+                place: fault.address,
+            },
+            Fault::Unreadable { line } => Figures {
+                number: 18,
+                layer: Layer::Script,
+                level: 0,
+                place: line,
+            },
+            Fault::TooLong => Figures {
+                number: 19,
+                layer: Layer::Script,
+                level: 0,
+                place: 0,
+            },
+        }
+    }
+}
+
+// A memory's refusal outside a tablewalk.
+pub impl From<BusFault> for Fault as FaultFromBus {
+    ghost converts = { λ f r. r ≡ outside f };
+
+    fn from(fault: BusFault) -> Fault {
+        let level = Level::Outside;
+        Fault::Bus { fault, level }
+    }
+}
