@@ -1,0 +1,7 @@
+// The bench language: how scripts read and how answers print.
+mod form;
+pub mod line;
+mod name;
+mod number;
+mod pieces;
+pub mod reader;
