@@ -4,3 +4,4 @@ pub mod Number
 pub mod Pieces
 pub mod Reader
 pub mod Room
+pub mod Text

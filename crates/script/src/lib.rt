@@ -5,3 +5,4 @@ mod name;
 mod number;
 mod pieces;
 pub mod reader;
+pub mod text;
