@@ -1,4 +1,6 @@
+pub mod Canonical
 pub mod Form
+pub mod Law
 pub mod Name
 pub mod Number
 pub mod Pieces

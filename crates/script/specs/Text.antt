@@ -1,5 +1,5 @@
 -- How answers print. Assumes nothing.
-use Prim.Native.Nat.{ℕ, _+_, _/_, _%_, _^_}
+use Prim.Native.Nat.{ℕ, zero, suc, _+_, _*_, _/_, _%_, _^_}
 use mathlib.Core.Bool.{cond}
 use mathlib.Core.List.{List, [], _∷_, _++_}
 use lib.Chars.{codes}
@@ -19,11 +19,14 @@ use Rattle.calls.specs.Fault.{figures-of}
 abbrev pub glyph : ℕ → ℕ
 glyph n = cond (ltb n 10) (48 + n) (87 + n)
 
+-- the k lowest digits of a word to base 16, the highest first
+abbrev pub nibbles : ℕ → ℕ → List ℕ
+nibbles zero w = []
+nibbles (suc k) w = glyph (w / 2 ^ (4 * k) % 16) ∷ nibbles k w
+
 -- a word as 0x and eight digits
 abbrev pub eight : ℕ → List ℕ
-eight w =
-    48 ∷ 120 ∷ glyph (w / 2 ^ 28 % 16) ∷ glyph (w / 2 ^ 24 % 16) ∷ glyph (w / 2 ^ 20 % 16) ∷ glyph (w / 2 ^ 16 % 16)
-    ∷ glyph (w / 2 ^ 12 % 16) ∷ glyph (w / 2 ^ 8 % 16) ∷ glyph (w / 2 ^ 4 % 16) ∷ glyph (w / 2 ^ 0 % 16) ∷ []
+eight w = 48 ∷ 120 ∷ nibbles 8 w
 
 abbrev pub layer-text : Layer → List ℕ
 layer-text Bus = codes "bus"

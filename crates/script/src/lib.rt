@@ -1,4 +1,5 @@
 // The bench language: how scripts read and how answers print.
+pub mod canonical;
 mod form;
 pub mod line;
 mod name;
