@@ -3,6 +3,7 @@ pub mod Form
 pub mod Law
 pub mod Name
 pub mod Number
+pub mod Pending
 pub mod Pieces
 pub mod Reader
 pub mod Room
