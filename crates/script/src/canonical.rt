@@ -49,7 +49,11 @@ fn form(heap: Global, call: Call) -> Result<String, AllocError>
         Call::Peek { address } => one(heap, "peek", address),
         Call::Write { register, word } => two(heap, "write", register, word),
         Call::Read { register } => one(heap, "read", register),
-        Call::Mode { problem, instruction, data } => mode(heap, problem, instruction, data),
+        Call::Mode {
+            problem,
+            instruction,
+            data,
+        } => mode(heap, problem, instruction, data),
         Call::Access { kind, address } => two(heap, "access", kind, address),
         Call::Resolve { kind, address } => two(heap, "resolve", kind, address),
         Call::Drop { address } => one(heap, "drop", address),

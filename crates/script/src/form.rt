@@ -138,7 +138,11 @@ impl<'a> Words<'a> {
                 let problem = self.flag()?;
                 let instruction = self.flag()?;
                 let data = self.flag()?;
-                Some(Call::Mode { problem, instruction, data })
+                Some(Call::Mode {
+                    problem,
+                    instruction,
+                    data,
+                })
             }
             Name::Access => {
                 let kind = self.number()?;
@@ -183,7 +187,9 @@ fn bracketed(line: &[u8]) -> Option<&[u8]>
 fn form(body: &[u8]) -> Option<Call>
     ensures { λ r. ⌜ r ≡ form-of (Some (now (body .entry))) ⌝ }
 {
-    let mut words = Words { pieces: Pieces::new(body, b' ') };
+    let mut words = Words {
+        pieces: Pieces::new(body, b' '),
+    };
     let call = words.call()?;
     match words.pieces.next() {
         Some(_) => None,

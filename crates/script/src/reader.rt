@@ -33,7 +33,11 @@ impl<'a> Reader<'a> {
         let too_long = script.len() > LONGEST;
         let kept = if too_long { &script[0..0] } else { script };
         let lines = Pieces::new(kept, b'\n');
-        Reader { lines, number: 1, too_long }
+        Reader {
+            lines,
+            number: 1,
+            too_long,
+        }
     }
 
     // The next line with its number, empty or not.

@@ -78,7 +78,10 @@ fn grant_text(heap: Global, grant: Grant) -> Result<String, AllocError>
     let inhibit = u8::from(grant.cache_inhibit);
     let through = u8::from(grant.write_through);
     let guarded = u8::from(grant.guarded);
-    format!(heap, "(grant {address} {size} {inhibit} {through} {guarded})")
+    format!(
+        heap,
+        "(grant {address} {size} {inhibit} {through} {guarded})"
+    )
 }
 
 // The text of an answer.

@@ -11,8 +11,7 @@ loop-line-again g c =
     let told = c .in-Continue-tell .ensures tt in
     let first = c .in-Some .ensures tt in
     let old = pending (c .loop-line .reader) in
-    let ls = pending (c .next .last .self) in
-    (
+    let ls = pending (c .next .last .self) in (
       told-more m n (c .in-Some .line) old ls first (told .left) (string-bytes (c .loop-line .out)) (string-bytes (c .tell .last .out)) (told .text) ∙ c .loop-line .inv .0,
       left-more m n (c .in-Some .line) old ls first (told .left) ∙ c .loop-line .inv .1,
       told .same ∙ c .loop-line .inv .2,

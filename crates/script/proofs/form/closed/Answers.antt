@@ -11,6 +11,6 @@ pub returns-in-rest : need.returns-in-rest
 returns-in-rest c =
     let bytes = c .args .bytes .now in
     elim (c .in-rest .came) [
-      in-rest·by·then-bytes-lt1 w ↦ not-closed bytes (λ e. omega (arith, getD-past bytes (length bytes - 1) 0 (omega (arith, ltb-true))))
+      | in-rest·by·then-bytes-lt1 w ↦ not-closed bytes (λ e. omega (arith, getD-past bytes (length bytes - 1) 0 (omega (arith, ltb-true))))
       | in-rest·by·else-bytes-lt1·in-rest· w ↦ not-closed bytes (λ e. omega arith)
     ]

@@ -24,10 +24,10 @@ returns-in-Break-value c =
 
 pub loop-byte-again : need.loop-byte-again
 loop-byte-again c = (
-    omega (arith, c .in-Continue-value .ensures tt .0, c .in-Continue-value .ensures tt .1),
-    one-more _ (c .loop-byte .value) (c .args .digits .now) (c .loop-byte .byte-index) (c .loop-byte .inv .1) (c .loop-byte-test .taken) _ (c .digit-next .ensures) (c .if-next-base .left)
-    (c .in-Continue-value .value) (c .in-Continue-value .ensures tt .1 ∙ ap (λ m. m + c .digit-next .result) (c .in-Continue-checked-mul .ensures tt .1)),
-  )
+  omega (arith, c .in-Continue-value .ensures tt .0, c .in-Continue-value .ensures tt .1),
+  one-more _ (c .loop-byte .value) (c .args .digits .now) (c .loop-byte .byte-index) (c .loop-byte .inv .1) (c .loop-byte-test .taken) _ (c .digit-next .ensures) (c .if-next-base .left)
+      (c .in-Continue-value .value) (c .in-Continue-value .ensures tt .1 ∙ ap (λ m. m + c .digit-next .result) (c .in-Continue-checked-mul .ensures tt .1)),
+)
 
 pub returns : need.returns
 returns c =

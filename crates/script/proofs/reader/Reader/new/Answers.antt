@@ -12,5 +12,5 @@ ghost-result c =
     let bytes = c .if-too-long .kept′ .now in
     let all = ap weight (c .new-lines .ensures) ∙ weight-split 10 bytes in
     let few : length bytes ≤ 65536 =
-        elim (c .if-too-long .came) [ then-too-long w ↦ omega (arith, ap (λ r. length (r .now)) (w .kept′-is)) | else-too-long w ↦ omega (arith, ap (λ r. length (r .now)) (w .kept′-is)) ] in
+    elim (c .if-too-long .came) [ then-too-long w ↦ omega (arith, ap (λ r. length (r .now)) (w .kept′-is)) | else-too-long w ↦ omega (arith, ap (λ r. length (r .now)) (w .kept′-is)) ] in
     (omega (arith, all), tt)
