@@ -4,7 +4,7 @@ use mathlib.Core.List.{List, [], _∷_, _++_, append-assoc}
 use mathlib.Core.Path.{_≡_, sym, ap, _∙_}
 use Rattle.board.specs.Memory.{Meaning}
 use Rattle.script.specs.declared.line.Line.{Line}
-use Rattle.script.specs.Text.{text-of}
+use Rattle.text.specs.Answers.{text-of}
 use Rattle.bench.specs.Account.{answer-to, left-by, account-text, left-after}
 
 module _ (m n : Meaning) (l : Line) (old ls : List Line) (first : old ≡ l ∷ ls) (next : n ≡ left-by m l) where

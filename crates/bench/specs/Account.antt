@@ -13,7 +13,7 @@ use Rattle.calls.specs.declared.fault.Fault.{Fault}
 use Rattle.calls.specs.declared.fault.Fault.the-variants.{Unreadable}
 use Rattle.calls.specs.Fault.{outside}
 use Rattle.script.specs.declared.line.Line.{Line}
-use Rattle.script.specs.Text.{text-of}
+use Rattle.text.specs.Answers.{text-of}
 
 abbrev pub peek-answer : Result ℕ BusFault → Answer
 peek-answer (Ok w) = Value w

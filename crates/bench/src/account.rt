@@ -5,7 +5,7 @@ ghost use Rattle.std.specs.Of.String.{string-bytes};
 ghost use Rattle.std.specs.Vec.{made};
 ghost use Rattle.bench.specs.Account.{answer-to, left-by, account-text, left-after};
 ghost use Rattle.script.specs.Reader.{script-of};
-ghost use Rattle.script.specs.Text.{text-of};
+ghost use Rattle.text.specs.Answers.{text-of};
 use board::memory::Memory;
 use calls::answer::Answer;
 use calls::call::Call;
@@ -13,9 +13,9 @@ use calls::fault::Fault;
 use calls::fault::FaultFromBus;
 use script::line::Line;
 use script::reader::Reader;
-use script::text::answer_text;
 use std::alloc::AllocError;
 use std::alloc::Global;
+use text::answers::answer_text;
 
 // The answer to one line. Forms that ask a translation unit are not readable here.
 fn answer<M: Memory>(memory: &mut M, line: Line) -> Answer

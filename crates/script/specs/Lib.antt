@@ -1,10 +1,7 @@
-pub mod Canonical
 pub mod Form
-pub mod Law
 pub mod Name
 pub mod Number
 pub mod Pending
 pub mod Pieces
 pub mod Reader
 pub mod Room
-pub mod Text

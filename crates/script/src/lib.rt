@@ -1,9 +1,7 @@
-// The bench language: how scripts read and how answers print.
-pub mod canonical;
+// The bench language: how scripts read.
 mod form;
 pub mod line;
 mod name;
 mod number;
 mod pieces;
 pub mod reader;
-pub mod text;

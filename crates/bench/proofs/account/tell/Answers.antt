@@ -3,7 +3,7 @@ use mathlib.Core.Path.{_≡_, refl, ap, _∙_}
 use lib.Utf8.{encode}
 use Rattle.std.proofs.shelf.Parts.{pushed}
 use Rattle.std.specs.Of.String.{string-bytes}
-use Rattle.script.specs.Text.{text-of}
+use Rattle.text.specs.Answers.{text-of}
 use Rattle.bench.proofs.account.tell.Needs as need
 
 pub returns : need.returns
