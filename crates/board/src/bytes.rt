@@ -10,7 +10,7 @@ use crate::bus::BusFault;
 use crate::bus::Refusal;
 
 // The index of the first byte of the word at `address`, where there are `len` bytes.
-pub fn place(len: usize, address: u32) -> Result<usize, BusFault>
+pub(crate) fn place(len: usize, address: u32) -> Result<usize, BusFault>
     ensures value { λ r. ⌜ r ≡ placed len address ⌝ }
     ensures within { λ r. ⌜ made r (λ at. at + 4 ≤ len) ⌝ }
 {
@@ -28,7 +28,7 @@ pub fn place(len: usize, address: u32) -> Result<usize, BusFault>
 }
 
 // The word at `address` of a memory that is made of `bytes`.
-pub fn word(bytes: &[u8], address: u32) -> Result<u32, BusFault>
+pub(crate) fn word(bytes: &[u8], address: u32) -> Result<u32, BusFault>
     ensures { λ r. ⌜ r ≡ peeked (rom (now (bytes .entry))) address ⌝ }
 {
     let at = place(bytes.len(), address)?;

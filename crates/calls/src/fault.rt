@@ -1,6 +1,6 @@
 // How a call is refused.
 ghost use mathlib.Core.Path.{_≡_};
-ghost use Rattle.calls.specs.Fault.{outside, figures-of, level-number, bus-number};
+ghost use Rattle.calls.specs.Fault.{outside, figures-of, level-number, bus-number, denial-number, descriptor-number, descriptor-level};
 use board::bus::BusFault;
 use board::bus::BusFaultDebug;
 use board::bus::BusFaultEq;
@@ -18,17 +18,60 @@ pub enum Level {
 // What refused.
 #[derive(Clone, Copy, Debug, PartialEq, Eq)]
 pub enum Layer {
+    Unit,
+    Walk,
     Bus,
     Script,
+}
+
+// Why a page refuses an access that it matches, in the order in which the reasons are tested.
+#[derive(Clone, Copy, Debug, PartialEq, Eq)]
+pub enum Denial {
+    // the page is not valid
+    Invalid,
+    // its access protection group refuses
+    Group,
+    // its rights refuse
+    Rights,
+    // a store to a page that is not marked changed
+    Unchanged,
+}
+
+// Why a tablewalk stops at a descriptor that it has fetched.
+#[derive(Clone, Copy, Debug, PartialEq, Eq)]
+pub enum Descriptor {
+    // the first word is not valid
+    FirstInvalid,
+    // the first word has a page size that there is not
+    FirstSize,
+    // the second word is not valid
+    SecondInvalid,
+    // the second word's mark bits are not all one
+    SecondMarks,
 }
 
 // A refusal with its place.
 #[derive(Clone, Copy, Debug, PartialEq, Eq)]
 pub enum Fault {
+    // the page found refuses the access; the place is the effective address
+    Denied {
+        denial: Denial,
+        address: u32,
+    },
+    // the tablewalk stops; the place is the descriptor's address
+    Walk {
+        descriptor: Descriptor,
+        address: u32,
+    },
     // a memory refused; the place is the address that was put to it
-    Bus { fault: BusFault, level: Level },
+    Bus {
+        fault: BusFault,
+        level: Level,
+    },
     // a line of the script does not read; the place is its number, counted from 1
-    Unreadable { line: u32 },
+    Unreadable {
+        line: u32,
+    },
     // the script is longer than is read
     TooLong,
 }
@@ -54,6 +97,41 @@ impl Level {
     }
 }
 
+impl Denial {
+    fn number(self) -> u32
+        ensures { λ r. ⌜ r ≡ denial-number self ⌝ }
+    {
+        match self {
+            Denial::Invalid => 6,
+            Denial::Group => 7,
+            Denial::Rights => 8,
+            Denial::Unchanged => 9,
+        }
+    }
+}
+
+impl Descriptor {
+    fn number(self) -> u32
+        ensures { λ r. ⌜ r ≡ descriptor-number self ⌝ }
+    {
+        match self {
+            Descriptor::FirstInvalid => 10,
+            Descriptor::FirstSize => 11,
+            Descriptor::SecondInvalid => 12,
+            Descriptor::SecondMarks => 13,
+        }
+    }
+
+    fn level(self) -> Level
+        ensures { λ r. ⌜ r ≡ descriptor-level self ⌝ }
+    {
+        match self {
+            Descriptor::FirstInvalid | Descriptor::FirstSize => Level::First,
+            Descriptor::SecondInvalid | Descriptor::SecondMarks => Level::Second,
+        }
+    }
+}
+
 fn bus_number(refusal: Refusal) -> u32
     ensures { λ r. ⌜ r ≡ bus-number refusal ⌝ }
 {
@@ -70,6 +148,21 @@ impl Fault {
         ensures { λ r. ⌜ r ≡ figures-of self ⌝ }
     {
         match self {
+            Fault::Denied { denial, address } => Figures {
+                number: denial.number(),
+                layer: Layer::Unit,
+                level: 0,
+                place: address,
+            },
+            Fault::Walk {
+                descriptor,
+                address,
+            } => Figures {
+                number: descriptor.number(),
+                layer: Layer::Walk,
+                level: descriptor.level().number(),
+                place: address,
+            },
             Fault::Bus { fault, level } => Figures {
                 number: bus_number(fault.refusal),
                 layer: Layer::Bus,

@@ -198,7 +198,7 @@ fn form(body: &[u8]) -> Option<Call>
 }
 
 // The call that a line writes, if it reads.
-pub fn call_of(line: &[u8]) -> Option<Call>
+pub(crate) fn call_of(line: &[u8]) -> Option<Call>
     ensures { λ r. ⌜ r ≡ line-of (now (line .entry)) ⌝ }
 {
     let body = bracketed(line)?;

@@ -19,14 +19,14 @@ pub enum Name {
 }
 
 // Whether a word is this text.
-pub fn is(word: &[u8], text: &[u8]) -> bool
+pub(crate) fn is(word: &[u8], text: &[u8]) -> bool
     ensures { λ r. ⌜ r ≡ sameBytes (now (word .entry)) (now (text .entry)) ⌝ }
 {
     word == text
 }
 
 impl Name {
-    pub fn of(word: &[u8]) -> Option<Name>
+    pub(crate) fn of(word: &[u8]) -> Option<Name>
         ensures { λ r. ⌜ r ≡ name-of (now (word .entry)) ⌝ }
     {
         if is(word, b"poke") {

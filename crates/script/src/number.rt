@@ -32,7 +32,7 @@ fn value(digits: &[u8], base: u32) -> Option<u32>
 }
 
 // The number that a word writes: digits, or 0x and hexadecimal digits.
-pub fn number(word: &[u8]) -> Option<u32>
+pub(crate) fn number(word: &[u8]) -> Option<u32>
     ensures { λ r. ⌜ r ≡ number-of (now (word .entry)) ⌝ }
 {
     match word {

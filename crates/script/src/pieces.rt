@@ -23,7 +23,7 @@ fn cut(bytes: &[u8], separator: u8) -> (&[u8], Option<&[u8]>)
 }
 
 impl<'a> Pieces<'a> {
-    pub fn new(bytes: &'a [u8], separator: u8) -> Pieces<'a>
+    pub(crate) fn new(bytes: &'a [u8], separator: u8) -> Pieces<'a>
         ensures { λ r. ⌜ left r ≡ split separator (now (bytes .entry)) ⌝ }
     {
         let rest = Some(bytes);
@@ -31,7 +31,7 @@ impl<'a> Pieces<'a> {
     }
 
     // The next piece, a part of the bytes.
-    pub fn next(&mut self) -> Option<&'a [u8]>
+    pub(crate) fn next(&mut self) -> Option<&'a [u8]>
         ensures piece { λ r. ⌜ left (now (self .entry)) ≡ taken r (left (now (self .exit))) ⌝ }
         ensures rest { λ _. ⌜ left (now (self .exit)) ≡ behind (left (now (self .entry))) ⌝ }
     {

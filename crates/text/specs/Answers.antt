@@ -12,7 +12,7 @@ use Rattle.calls.specs.declared.answer.Grant.{Grant}
 use Rattle.calls.specs.declared.fault.Fault.{Fault}
 use Rattle.calls.specs.declared.fault.Figures.{Figures}
 use Rattle.calls.specs.declared.fault.Layer.{Layer}
-use Rattle.calls.specs.declared.fault.Layer.the-variants.{Bus, Script}
+use Rattle.calls.specs.declared.fault.Layer.the-variants.{Unit, Walk, Bus, Script}
 use Rattle.calls.specs.Fault.{figures-of}
 
 -- the digit of a number below 16: 0 to 9, then a to f
@@ -29,6 +29,8 @@ abbrev pub eight : ℕ → List ℕ
 eight w = 48 ∷ 120 ∷ nibbles 8 w
 
 abbrev pub layer-text : Layer → List ℕ
+layer-text Unit = codes "unit"
+layer-text Walk = codes "walk"
 layer-text Bus = codes "bus"
 layer-text Script = codes "script"
 

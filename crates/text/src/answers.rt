@@ -52,6 +52,8 @@ fn layer_name(layer: Layer) -> &'static str
     ensures { λ r. ⌜ now r ≡ layer-text layer ⌝ }
 {
     match layer {
+        Layer::Unit => "unit",
+        Layer::Walk => "walk",
         Layer::Bus => "bus",
         Layer::Script => "script",
     }

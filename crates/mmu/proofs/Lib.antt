@@ -1,0 +1,5 @@
+pub mod Fields
+pub mod KeptFields
+pub mod Lowest
+pub mod RightsTable
+pub mod Worked
