@@ -1,5 +1,3 @@
-pub mod Fields
-pub mod KeptFields
-pub mod Lowest
+pub mod Places
 pub mod RightsTable
 pub mod Worked

@@ -9,8 +9,8 @@ use Rattle.std.specs.shelf.Lists.{All}
 use Rattle.std.specs.declared.option.Option.{Option}
 use Rattle.std.specs.declared.option.Option.the-variants.{None, Some}
 use Rattle.calls.specs.Fault.{figures-of}
-use Rattle.mmu.specs.Control.{next-index}
-use Rattle.mmu.specs.Pages.{common-of, contains, physical, data-page}
+use Rattle.tlb.specs.Control.{next-index}
+use Rattle.tlb.specs.Pages.{common-of, contains, physical, data-page}
 use Rattle.mmu.specs.Verdict.{gives}
 use Rattle.mmu.specs.Walk.{first-address, first-tested, marked}
 use Rattle.mmu.specs.declared.rights.Access.{Access}

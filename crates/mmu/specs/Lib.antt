@@ -1,10 +1,4 @@
-pub mod Bits
-pub mod Control
-pub mod Entries
 pub mod Figures
-pub mod Pages
-pub mod Registers
 pub mod Rights
-pub mod Search
 pub mod Verdict
 pub mod Walk

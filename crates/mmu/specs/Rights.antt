@@ -1,10 +1,10 @@
 -- The 48 rights, and what an access protection group makes of them. Assumes nothing.
-use Prim.Native.Nat.{ℕ, _+_, _*_, _%_}
+use Prim.Native.Nat.{ℕ, _%_}
 use mathlib.Core.Bool.{Bool, true, false, cond, not}
 use mathlib.Core.List.{List, [], _∷_}
 use lib.Dec.{eqb}
 use lib.ListN.{getD}
-use Rattle.mmu.specs.Bits.{field}
+use Rattle.tlb.specs.Control.{code-of}
 use Rattle.mmu.specs.declared.rights.Access.{Access}
 use Rattle.mmu.specs.declared.rights.Access.the-variants.{Fetch, Load, Store}
 use Rattle.mmu.specs.declared.rights.Ruling.{Ruling}
@@ -37,10 +37,6 @@ abbrev pub column-of : Access → ℕ
 column-of Fetch = 0
 column-of Load = 1
 column-of Store = 2
-
--- the two bits of AP for a group
-abbrev pub code-of : ℕ → ℕ → ℕ
-code-of ap group = field (2 * (group % 16)) (2 * (group % 16) + 1) ap
 
 -- group mode 0: code 00 tests as privileged, 01 as it is, 10 with the privileges exchanged, 11 as problem.
 -- group mode 1: codes 00 and 10 refuse, 01 tests as it is, 11 tests nothing

@@ -8,9 +8,9 @@ use Rattle.calls.specs.declared.fault.Denial.{Denial}
 use Rattle.calls.specs.declared.fault.Denial.the-variants.{Invalid, Group, Rights, Unchanged}
 use Rattle.calls.specs.declared.fault.Fault.{Fault}
 use Rattle.calls.specs.declared.fault.Fault.the-variants.{Denied}
-use Rattle.mmu.specs.Pages.{bytes-in, physical}
+use Rattle.tlb.specs.Pages.{bytes-in, physical}
 use Rattle.mmu.specs.Rights.{allows, ruling-of}
-use Rattle.mmu.specs.declared.page.Common.{Common}
+use Rattle.tlb.specs.declared.page.Common.{Common}
 use Rattle.mmu.specs.declared.rights.Access.{Access}
 use Rattle.mmu.specs.declared.rights.Access.the-variants.{Fetch, Load, Store}
 use Rattle.mmu.specs.declared.rights.Protection.{Protection}

@@ -13,7 +13,7 @@ use Rattle.calls.specs.declared.fault.Fault.{Fault}
 use Rattle.calls.specs.declared.fault.Fault.the-variants.{Walk, Bus}
 use Rattle.calls.specs.declared.fault.Level.{Level}
 use Rattle.calls.specs.declared.fault.Level.the-variants.{First, Second}
-use Rattle.mmu.specs.Bits.{field, flag}
+use Rattle.tlb.specs.Bits.{field, flag}
 
 -- the kept table base, and bits 0 to 9 of the address at bits 20 to 29: where the first word is, and what M_TWB reads as
 abbrev pub first-address : ℕ → ℕ → ℕ

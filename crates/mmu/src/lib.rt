@@ -1,11 +1,5 @@
-// The parts of the translation unit: registers, pages, entries, the search, rights, the tablewalk.
-mod bits;
-pub mod control;
-pub mod entry;
+// What is done with a page: rights, the verdict on a match, the tablewalk; and the worked values of the rules.
 pub mod figures;
-pub mod page;
-pub mod register;
 pub mod rights;
-pub mod search;
 pub mod verdict;
 pub mod walk;

@@ -2,10 +2,10 @@
 ghost use mathlib.Core.Path.{_≡_};
 ghost use Prim.Native.Nat.{_<_};
 ghost use Rattle.mmu.specs.Rights.{allows, column-of, ruling-by, ruling-of};
-use crate::bits::bits;
+use tlb::control::group_code;
 
 // What is done at an address.
-#[derive(Clone, Copy, Debug, PartialEq, Eq)]
+#[derive(Clone, Copy)]
 pub enum Access {
     Fetch,
     Load,
@@ -27,7 +27,7 @@ impl Access {
 }
 
 // The protection settings of one kind: the group mode and the word of MI_AP or MD_AP.
-#[derive(Clone, Copy, Debug, PartialEq, Eq)]
+#[derive(Clone, Copy)]
 pub struct Protection {
     pub group_mode: bool,
     pub ap: u32,
@@ -126,8 +126,6 @@ impl Protection {
     pub fn ruling(self, group: u32, problem: bool) -> Ruling
         ensures { λ r. ⌜ r ≡ ruling-of (self .«group_mode») (self .ap) group problem ⌝ }
     {
-        let place = 2 * (group % 16);
-        let code = bits(self.ap, place, place + 1);
-        rule(self.group_mode, code, problem)
+        rule(self.group_mode, group_code(self.ap, group), problem)
     }
 }

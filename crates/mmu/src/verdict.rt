@@ -1,8 +1,6 @@
 // The verdict on a match.
 ghost use mathlib.Core.Path.{_≡_};
 ghost use Rattle.mmu.specs.Verdict.{permits, unmarked, through-for, gives};
-use crate::page::Common;
-use crate::page::Page;
 use crate::rights::Access;
 use crate::rights::Protection;
 use crate::rights::Ruling;
@@ -10,6 +8,8 @@ use crate::rights::allowed;
 use calls::answer::Grant;
 use calls::fault::Denial;
 use calls::fault::Fault;
+use tlb::page::Common;
+use tlb::page::Page;
 
 impl Access {
     // Whether it is a store to a page that is not marked changed.

@@ -1,14 +1,17 @@
 // The tablewalk, over any memory.
 ghost use mathlib.Core.Path.{_≡_};
 ghost use Rattle.mmu.specs.Walk.{first-address, second-address, at-level, first-tested, second-tested, first-word, second-word, reading-of};
-use crate::bits::bit;
-use crate::bits::bits;
-use crate::page::Page;
 use board::bus::BusFault;
 use board::memory::Memory;
 use calls::fault::Descriptor;
 use calls::fault::Fault;
 use calls::fault::Level;
+use tlb::descriptor::is_valid;
+use tlb::descriptor::level_one_index;
+use tlb::descriptor::level_two_index;
+use tlb::descriptor::mark_bits;
+use tlb::descriptor::size_bits;
+use tlb::page::Page;
 
 // The bits of a table's address, 0 to 19.
 const TABLE: u32 = 0xffff_f000;
@@ -17,14 +20,14 @@ const TABLE: u32 = 0xffff_f000;
 pub fn first_place(base: u32, address: u32) -> u32
     ensures { λ r. ⌜ r ≡ first-address base address ⌝ }
 {
-    (base & TABLE) | (bits(address, 0, 9) << 2)
+    (base & TABLE) | (level_one_index(address) << 2)
 }
 
 // Where the second word for an address is; also what a read of MD_TWC gives for MD_EPN.
 pub fn second_place(first: u32, address: u32) -> u32
     ensures { λ r. ⌜ r ≡ second-address first address ⌝ }
 {
-    (first & TABLE) | (bits(address, 10, 19) << 2)
+    (first & TABLE) | (level_two_index(address) << 2)
 }
 
 // A memory's answer to a walk at that level.
@@ -41,14 +44,14 @@ fn at_level<T>(answer: Result<T, BusFault>, level: Level) -> Result<T, Fault>
 fn test_first(address: u32, word: u32) -> Result<u32, Fault>
     ensures { λ r. ⌜ r ≡ first-tested address word ⌝ }
 {
-    if !bit(word, 31) {
+    if !is_valid(word) {
         let descriptor = Descriptor::FirstInvalid;
         return Err(Fault::Walk {
             descriptor,
             address,
         });
     }
-    if bits(word, 28, 29) == 2 {
+    if size_bits(word) == 2 {
         let descriptor = Descriptor::FirstSize;
         return Err(Fault::Walk {
             descriptor,
@@ -62,14 +65,14 @@ fn test_first(address: u32, word: u32) -> Result<u32, Fault>
 fn test_second(address: u32, word: u32) -> Result<u32, Fault>
     ensures { λ r. ⌜ r ≡ second-tested address word ⌝ }
 {
-    if !bit(word, 31) {
+    if !is_valid(word) {
         let descriptor = Descriptor::SecondInvalid;
         return Err(Fault::Walk {
             descriptor,
             address,
         });
     }
-    if bits(word, 24, 27) != 15 {
+    if mark_bits(word) != 15 {
         let descriptor = Descriptor::SecondMarks;
         return Err(Fault::Walk {
             descriptor,

@@ -1,5 +1,0 @@
-use Rattle.mmu.proofs.Fields.{shift-mask}
-use Rattle.mmu.proofs.bits.bits.Needs as need
-
-pub returns : need.returns
-returns c = shift-mask (c .args .word) (c .args .first) (c .args .last) (c .pre .order) (c .pre .within) (c .pre .part)
