@@ -45,11 +45,11 @@ module _ (bs : List ℕ) (a b0 b1 b2 b3 : ℕ) (fits : a + 4 ≤ length bs) wher
   length-written = simp length-set
 
   elsewhere : (j : ℕ) → j ≢ a → j ≢ a + 1 → j ≢ a + 2 → j ≢ a + 3 → getD (written bs a b0 b1 b2 b3) j 0 ≡ getD bs j 0
-  elsewhere j n0 n1 n2 n3 =
-      getD-set-other (set (set (set bs a b0) (a + 1) b1) (a + 2) b2) (a + 3) j b3 0 n3
-      ∙ getD-set-other (set (set bs a b0) (a + 1) b1) (a + 2) j b2 0 n2
-      ∙ getD-set-other (set bs a b0) (a + 1) j b1 0 n1
-      ∙ getD-set-other bs a j b0 0 n0
+  elsewhere j ne0 ne1 ne2 ne3 =
+      getD-set-other (set (set (set bs a b0) (a + 1) b1) (a + 2) b2) (a + 3) j b3 0 ne3
+      ∙ getD-set-other (set (set bs a b0) (a + 1) b1) (a + 2) j b2 0 ne2
+      ∙ getD-set-other (set bs a b0) (a + 1) j b1 0 ne1
+      ∙ getD-set-other bs a j b0 0 ne0
 
   -- the word written is the one that stands there
   pub read-back : big-endian (written bs a b0 b1 b2 b3) a ≡ word-of b0 b1 b2 b3

@@ -12,14 +12,14 @@ use script::reader::Reader;
 use std::test::*;
 
 // The first line of the script reads as this call.
-pub fn reads(script: &[u8], call: Call) -> Result<(), Fail> {
+pub(crate) fn reads(script: &[u8], call: Call) -> Result<(), Fail> {
     let number = 1;
     let call = Ok(call);
     check_eq(Reader::new(script).next(), Some(Line { number, call }))
 }
 
 // The first line of the script does not read.
-pub fn refuses(script: &[u8]) -> Result<(), Fail> {
+pub(crate) fn refuses(script: &[u8]) -> Result<(), Fail> {
     let number = 1;
     let call = Err(Fault::Unreadable { line: 1 });
     check_eq(Reader::new(script).next(), Some(Line { number, call }))

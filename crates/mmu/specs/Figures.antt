@@ -10,7 +10,7 @@ use Rattle.std.specs.declared.option.Option.{Option}
 use Rattle.std.specs.declared.option.Option.the-variants.{None, Some}
 use Rattle.calls.specs.Fault.{figures-of}
 use Rattle.tlb.specs.Control.{next-index}
-use Rattle.tlb.specs.Pages.{common-of, contains, physical, data-page}
+use Rattle.tlb.specs.Page.{common-of, contains, physical, data-page}
 use Rattle.mmu.specs.Verdict.{gives}
 use Rattle.mmu.specs.Walk.{first-address, first-tested, marked}
 use Rattle.mmu.specs.declared.rights.Access.{Access}

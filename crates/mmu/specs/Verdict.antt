@@ -8,7 +8,7 @@ use Rattle.calls.specs.declared.fault.Denial.{Denial}
 use Rattle.calls.specs.declared.fault.Denial.the-variants.{Invalid, Group, Rights, Unchanged}
 use Rattle.calls.specs.declared.fault.Fault.{Fault}
 use Rattle.calls.specs.declared.fault.Fault.the-variants.{Denied}
-use Rattle.tlb.specs.Pages.{bytes-in, physical}
+use Rattle.tlb.specs.Page.{bytes-in, physical}
 use Rattle.mmu.specs.Rights.{allows, ruling-of}
 use Rattle.tlb.specs.declared.page.Common.{Common}
 use Rattle.mmu.specs.declared.rights.Access.{Access}

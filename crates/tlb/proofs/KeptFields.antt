@@ -8,7 +8,7 @@ use lib.Dec.{eqb}
 use Rattle.std.proofs.shelf.Tests.{and-parts, eqb-true}
 use Rattle.tlb.proofs.Fields.{field-kept}
 use Rattle.tlb.specs.Bits.{field}
-use Rattle.tlb.specs.Registers.{kept-bits, fields-of, Agree}
+use Rattle.tlb.specs.Register.{kept-bits, fields-of, Agree}
 use Rattle.tlb.specs.declared.register.Kind.the-variants.{Instruction, Data}
 use Rattle.tlb.specs.declared.register.Register.{Register}
 use Rattle.tlb.specs.declared.register.Register.the-variants.{Ctr, Ap, Epn, Twc, Rpn, Casid, Twb, Tw}

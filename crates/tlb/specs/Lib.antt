@@ -1,6 +1,6 @@
 pub mod Bits
 pub mod Control
-pub mod Entries
-pub mod Pages
-pub mod Registers
+pub mod Entry
+pub mod Page
+pub mod Register
 pub mod Search

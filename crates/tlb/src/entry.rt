@@ -1,6 +1,6 @@
 // TLB entries.
 ghost use mathlib.Core.Path.{_≡_};
-ghost use Rattle.tlb.specs.Entries.{entry-of, matched};
+ghost use Rattle.tlb.specs.Entry.{entry-of, matched};
 use crate::bits::bit;
 use crate::bits::bits;
 use crate::page::Page;

@@ -3,7 +3,7 @@ ghost use mathlib.Core.Bool.{Bool, true, false, _&&_};
 ghost use mathlib.Core.Path.{_≡_};
 ghost use Prim.Native.Nat.{ℕ, _<_};
 ghost use Rattle.tlb.specs.Bits.{flag};
-ghost use Rattle.tlb.specs.Pages.{offset-bits, bytes-in, size-of, common-of, instruction-page, data-page, contains, physical};
+ghost use Rattle.tlb.specs.Page.{offset-bits, bytes-in, size-of, common-of, instruction-page, data-page, contains, physical};
 ghost use Rattle.tlb.specs.declared.page.Common.{Common};
 use crate::bits::bit;
 use crate::bits::bits;

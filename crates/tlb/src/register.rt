@@ -1,7 +1,7 @@
 // The registers of the unit.
 ghost use mathlib.Core.Path.{_≡_};
 ghost use lib.Bits.{bitAnd};
-ghost use Rattle.tlb.specs.Registers.{kept-bits, register-at, fields-of, Agree};
+ghost use Rattle.tlb.specs.Register.{kept-bits, register-at, fields-of, Agree};
 
 // The two kinds: instruction (MI, for fetches) and data (MD, for loads and stores).
 #[derive(Clone, Copy, Debug, PartialEq, Eq)]

@@ -1,7 +1,7 @@
 use mathlib.Core.Path.{ap, _∙_}
 use lib.Dec.{eqb}
 use Rattle.tlb.specs.Bits.{cleared}
-use Rattle.tlb.specs.Pages.{contains}
+use Rattle.tlb.specs.Page.{contains}
 use Rattle.tlb.proofs.page.Common.contains.Needs as need
 
 pub returns : need.returns

@@ -1,6 +1,6 @@
 use mathlib.Core.Path.{_≡_, ap, _∙_}
 use Rattle.tlb.specs.Bits.{cleared}
-use Rattle.tlb.specs.Pages.{offset-bits, size-of, common-of}
+use Rattle.tlb.specs.Page.{offset-bits, size-of, common-of}
 use Rattle.tlb.proofs.page.Common.of.Needs as need
 
 pub returns : need.returns

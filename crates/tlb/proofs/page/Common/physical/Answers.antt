@@ -3,7 +3,7 @@ use mathlib.Core.Path.{_≡_, ap, _∙_}
 use lib.Bits.{bitAnd, bitOr}
 use Rattle.tlb.proofs.Fields.{join-offset}
 use Rattle.tlb.specs.Bits.{cleared}
-use Rattle.tlb.specs.Pages.{offset-bits}
+use Rattle.tlb.specs.Page.{offset-bits}
 use Rattle.tlb.proofs.page.Common.physical.Needs as need
 
 pub returns : need.returns

@@ -1,7 +1,7 @@
 use mathlib.Core.Path.{sym, ap, subst}
 use lib.Bits.{bitAnd}
 use Rattle.tlb.proofs.KeptFields.{fields-kept}
-use Rattle.tlb.specs.Registers.{fields-of, Agree}
+use Rattle.tlb.specs.Register.{fields-of, Agree}
 use Rattle.tlb.proofs.register.Register.keep.Needs as need
 
 pub returns : need.returns

@@ -3,7 +3,7 @@ use Prim.Native.Nat.{ℕ, _%_}
 use mathlib.Core.Bool.{Bool, _&&_, _||_}
 use lib.Dec.{eqb}
 use Rattle.tlb.specs.Bits.{field, flag}
-use Rattle.tlb.specs.Pages.{contains}
+use Rattle.tlb.specs.Page.{contains}
 use Rattle.tlb.specs.declared.entry.Entry.{Entry}
 use Rattle.tlb.specs.declared.page.Common.{Common}
 
