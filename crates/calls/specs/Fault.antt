@@ -8,9 +8,11 @@ use Rattle.calls.specs.declared.fault.Denial.the-variants.{Invalid, Group, Rig
 use Rattle.calls.specs.declared.fault.Descriptor.{Descriptor}
 use Rattle.calls.specs.declared.fault.Descriptor.the-variants.{FirstInvalid, FirstSize, SecondInvalid, SecondMarks}
 use Rattle.calls.specs.declared.fault.Fault.{Fault}
-use Rattle.calls.specs.declared.fault.Fault.the-variants.{Denied, Walk, Bus, Unreadable, TooLong}
+use Rattle.calls.specs.declared.fault.Fault.the-variants.{Register, NoKind, NoSlot, Denied, Walk, Bus, Unreadable, TooLong}
 use Rattle.calls.specs.declared.fault.Figures.{Figures}
 use Rattle.calls.specs.declared.fault.Layer as layers
+use Rattle.calls.specs.declared.fault.Misuse.{Misuse}
+use Rattle.calls.specs.declared.fault.Misuse.the-variants.{NoRegister, Mode, Size, Marks}
 use Rattle.calls.specs.declared.fault.Level.{Level}
 use Rattle.calls.specs.declared.fault.Level.the-variants.{Outside, First, Second}
 
@@ -23,6 +25,12 @@ abbrev pub bus-number : Refusal → ℕ
 bus-number Misaligned = 14
 bus-number NoWord = 15
 bus-number NotStorable = 16
+
+abbrev pub misuse-number : Misuse → ℕ
+misuse-number NoRegister = 1
+misuse-number Mode = 2
+misuse-number Size = 3
+misuse-number Marks = 4
 
 abbrev pub denial-number : Denial → ℕ
 denial-number Invalid = 6
@@ -43,6 +51,9 @@ descriptor-level SecondInvalid = Second
 descriptor-level SecondMarks = Second
 
 abbrev pub figures-of : Fault → Figures
+figures-of (Register m n) = record { number = misuse-number m; layer = layers.the-variants.Unit; level = 0; place = n }
+figures-of (NoKind k) = record { number = 5; layer = layers.the-variants.Unit; level = 0; place = k }
+figures-of (NoSlot n) = record { number = 17; layer = layers.the-variants.Unit; level = 0; place = n }
 figures-of (Denied d e) = record { number = denial-number d; layer = layers.the-variants.Unit; level = 0; place = e }
 figures-of (Walk d a) = record { number = descriptor-number d; layer = layers.the-variants.Walk; level = level-number (descriptor-level d); place = a }
 figures-of (Bus f l) = record { number = bus-number (f .refusal); layer = layers.the-variants.Bus; level = level-number l; place = f .address }

@@ -1,6 +1,6 @@
 // How a call is refused.
 ghost use mathlib.Core.Path.{_≡_};
-ghost use Rattle.calls.specs.Fault.{outside, figures-of, level-number, bus-number, denial-number, descriptor-number, descriptor-level};
+ghost use Rattle.calls.specs.Fault.{outside, figures-of, level-number, bus-number, misuse-number, denial-number, descriptor-number, descriptor-level};
 use board::bus::BusFault;
 use board::bus::BusFaultDebug;
 use board::bus::BusFaultEq;
@@ -22,6 +22,19 @@ pub enum Layer {
     Walk,
     Bus,
     Script,
+}
+
+// Why a register call is refused.
+#[derive(Clone, Copy, Debug, PartialEq, Eq)]
+pub enum Misuse {
+    // there is no register of that number
+    NoRegister,
+    // a control register would get a mode that there is not
+    Mode,
+    // a tablewalk control register would get a size that there is not
+    Size,
+    // the mark bits of a real page number are not all one
+    Marks,
 }
 
 // Why a page refuses an access that it matches, in the order in which the reasons are tested.
@@ -53,6 +66,19 @@ pub enum Descriptor {
 // A refusal with its place.
 #[derive(Clone, Copy, Debug, PartialEq, Eq)]
 pub enum Fault {
+    // a register call is refused; the place is the register's number
+    Register {
+        misuse: Misuse,
+        register: u32,
+    },
+    // there is no such kind of access or of look
+    NoKind {
+        kind: u32,
+    },
+    // there is no such slot
+    NoSlot {
+        slot: u32,
+    },
     // the page found refuses the access; the place is the effective address
     Denied {
         denial: Denial,
@@ -93,6 +119,19 @@ impl Level {
             Level::Outside => 0,
             Level::First => 1,
             Level::Second => 2,
+        }
+    }
+}
+
+impl Misuse {
+    fn number(self) -> u32
+        ensures { λ r. ⌜ r ≡ misuse-number self ⌝ }
+    {
+        match self {
+            Misuse::NoRegister => 1,
+            Misuse::Mode => 2,
+            Misuse::Size => 3,
+            Misuse::Marks => 4,
         }
     }
 }
@@ -148,6 +187,24 @@ impl Fault {
         ensures { λ r. ⌜ r ≡ figures-of self ⌝ }
     {
         match self {
+            Fault::Register { misuse, register } => Figures {
+                number: misuse.number(),
+                layer: Layer::Unit,
+                level: 0,
+                place: register,
+            },
+            Fault::NoKind { kind } => Figures {
+                number: 5,
+                layer: Layer::Unit,
+                level: 0,
+                place: kind,
+            },
+            Fault::NoSlot { slot } => Figures {
+                number: 17,
+                layer: Layer::Unit,
+                level: 0,
+                place: slot,
+            },
             Fault::Denied { denial, address } => Figures {
                 number: denial.number(),
                 layer: Layer::Unit,

@@ -1,0 +1,9 @@
+pub mod Counting
+pub mod Examples
+pub mod Follows
+pub mod Grants
+pub mod Pages
+pub mod Settling
+pub mod Slots
+pub mod Sources
+pub mod Staying

@@ -1,0 +1,11 @@
+pub mod Access
+pub mod Call
+pub mod Example
+pub mod History
+pub mod Life
+pub mod Load
+pub mod Promises
+pub mod Registers
+pub mod Resolve
+pub mod Tells
+pub mod Unit
