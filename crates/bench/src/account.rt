@@ -55,8 +55,8 @@ fn tell<M: Memory>(
     Ok(())
 }
 
-// The account of a whole script, run over a memory. Where there is no memory for the text, only what stands in no
-// word is told of.
+// The account of a whole script, run over a memory. Where memory for the text is wanting, the pokes of some of the first
+// lines may have been done.
 pub fn account_of<M: Memory>(
     heap: Global,
     memory: &mut M,

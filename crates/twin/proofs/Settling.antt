@@ -15,6 +15,7 @@ use Rattle.std.specs.declared.result.Result.the-variants.{Ok, Err}
 use Rattle.board.specs.Memory.{Meaning}
 use Rattle.calls.specs.declared.answer.Answer.{Answer}
 use Rattle.calls.specs.declared.fault.Fault.{Fault}
+use Rattle.mmu.specs.Walk.{onward, first-word, second-word, reading-of}
 use Rattle.mmu.specs.declared.rights.Access.{Access}
 use Rattle.mmu.specs.declared.rights.Protection.{Protection}
 use Rattle.tlb.specs.Control.{index-of, next-index, reserve, group-mode}
@@ -33,7 +34,7 @@ use Rattle.twin.specs.History.{LoadIn, Source, cleared}
 use Rattle.twin.specs.Life.{State, begin, step, next, after, history}
 use Rattle.twin.specs.Load.{Event, loaded, loaded-entry}
 use Rattle.twin.specs.Promises.{asks, settings, reading, reading-answer, Settled, SettledResolve, Settled-answers, Lives-alike}
-use Rattle.twin.specs.Resolve.{Walked, StoppedFirst, StoppedSecond, Passed, walked, reading-by, resolved, resolve-found, resolve-walked, resolve-missed, first-written, loaded-unit}
+use Rattle.twin.specs.Resolve.{Walked, StoppedFirst, StoppedSecond, Passed, behind-first, from-first, walked, reading-by, resolved, resolve-found, resolve-walked, resolve-missed, first-written, loaded-unit}
 use Rattle.twin.specs.Tells.{tells}
 use Rattle.twin.specs.Unit.{Page, Shape, shape, half, zero-entry, space}
 use Rattle.twin.specs.declared.request.Reply.the-variants as replies
@@ -63,6 +64,20 @@ half-answer s z h v e sp problem a none serving all =
     let entry = getD-set-same (h .slots) j (loaded-entry s v h) z small in
     ap (λ o. found-answer s (loaded s v h) z o problem a e) (found ∙ ap (λ k. Some k) at)
     ∙ (λ i. answer-of (page-gives s (entry i .page) (record { «group_mode» = mode i; ap = h .ap }) problem a e))
+
+-- the reading is read off the walk
+module _ {P : Type 0} (makes : ℕ → ℕ → ℕ → P) (m : Meaning) (e : ℕ) where
+  off-second : (first : ℕ) (r : Result ℕ Fault) → onward r (λ second. Ok (makes e first second)) ≡ reading-by makes e (behind-first first r)
+  off-second first (Ok second) = refl
+  off-second first (Err f) = refl
+
+  off-first : (r : Result ℕ Fault) → onward r (λ first. onward (second-word m first e) (λ second. Ok (makes e first second))) ≡ reading-by makes e (from-first m e r)
+  off-first (Ok first) = off-second first (second-word m first e)
+  off-first (Err f) = refl
+
+  off-walk : (base : ℕ) → reading-of makes m base e ≡ reading-by makes e (walked m base e)
+  unfolding walked
+  off-walk base = off-first (first-word m base e)
 
 -- by kind: what a passed walk answers
 passed-answer : (k : Kind) (w v e : ℕ) (a : Access) (u : Mmu) → e < 2 ^ 32 → slot-found (shape k) (half k u) e (space u) ≡ None → length (half k u .slots) ≡ 32
@@ -94,7 +109,7 @@ module _ (k : Kind) (past : List (Event (Page k))) (s : State) (a : Access) (e :
       by-settled i p h (inr gone) = absurd (both-ways _ (ap (λ j. cleared (shape k) j (h .found .load .entry .page) (h .found .load .later)) (h .found .into) ∙ h .found .uncleared) gone)
 
   found-settled : (o : Option ℕ) → slot-found (shape k) (half k (s .unit)) e (space (s .unit)) ≡ o → resolve-found k o (s .memory) a e (s .unit) .answer ≡ reading-answer (shape k) (reading k s e) (settings k s) (s .unit .mode .problem) a e
-  found-settled None p = walked-answer (walked (s .memory) (s .unit .twb) e) p
+  found-settled None p = walked-answer (walked (s .memory) (s .unit .twb) e) p ∙ ap (λ r. reading-answer (shape k) r (settings k s) (s .unit .mode .problem) a e) (sym (off-walk (shape k .made) (s .memory) e (s .unit .twb)))
   found-settled (Some i) p = hit-answer i p
 
   on-settled : (t : Bool) → t ≡ true → resolved t k (s .memory) a e (s .unit) .answer ≡ reading-answer (shape k) (reading k s e) (settings k s) (s .unit .mode .problem) a e

@@ -16,6 +16,7 @@ use Rattle.calls.specs.declared.call.Call as calls
 use Rattle.calls.specs.declared.call.Call.the-variants.{Poke, Peek, Write, Read, Mode, Resolve, Drop, DropAll, Tally}
 use Rattle.calls.specs.declared.fault.Fault.{Fault}
 use Rattle.calls.specs.declared.fault.Misuse.{Misuse}
+use Rattle.mmu.specs.Walk.{reading-of}
 use Rattle.mmu.specs.declared.rights.Access.{Access}
 use Rattle.mmu.specs.declared.rights.Protection.{Protection}
 use Rattle.tlb.specs.Control.{reserve}
@@ -31,7 +32,6 @@ use Rattle.twin.specs.History.{LoadIn, Source, cleared, disturbed, admits, loa
 use Rattle.twin.specs.Life.{State, begin, step, next, after, history}
 use Rattle.twin.specs.Load.{Event, Loaded, Dropped, DroppedAll}
 use Rattle.twin.specs.Registers.{misused}
-use Rattle.twin.specs.Resolve.{walked, reading-by}
 use Rattle.twin.specs.Tells.{tells}
 use Rattle.twin.specs.Unit.{Page, Shape, shape, half, space}
 use Rattle.twin.specs.declared.request.Reply.the-variants as replies
@@ -43,11 +43,11 @@ abbrev pub asks : Bool → ℕ → ℕ → Request
 asks false n e = requests.Call (calls.the-variants.Access n e)
 asks true n e = requests.Call (Resolve n e)
 
--- an answer is what a result of a page is
+-- a kind's protection settings: its group mode and AP
 abbrev pub settings : (k : Kind) → State → Protection
 settings k s = protection (half k (s .unit))
 
--- (a) every grant with translation on is what its source gives
+-- every grant with translation on is what its source gives: the slot found has such a source, and its page gives the grant
 abbrev pub Sourced : (k : Kind) → List (Event (Page k)) → State → Access → ℕ → Grant → Type 0
 Sourced k past s a e g =
     (i : ℕ)
@@ -62,10 +62,11 @@ Grants-sourced =
     → step (asks resolves n e) (after (begin m) rs) .reply ≡ replies.Answer (Granted g)
     → Sourced (kind-of a) (step (asks resolves n e) (after (begin m) rs) .events (kind-of a) ++ history (kind-of a) (begin m) rs) (next (asks resolves n e) (after (begin m) rs)) a e g
 
--- (b) the reading of e now, and what it gives
+-- the reading of e now: what the walk through the tables at the current base gives
 abbrev pub reading : (k : Kind) → State → ℕ → Result (Page k) Fault
-reading k s e = reading-by (shape k .made) e (walked (s .memory) (s .unit .twb) e)
+reading k s e = reading-of (shape k .made) (s .memory) (s .unit .twb) e
 
+-- a fault read is itself the answer; a page answers what it gives
 abbrev pub reading-answer : {P : Type 0} → Shape P → Result P Fault → Protection → Bool → Access → ℕ → Answer
 reading-answer s (Err f) p problem a e = Refused f
 reading-answer s (Ok page) p problem a e = answer-of (page-gives s page p problem a e)
@@ -79,12 +80,14 @@ Settled k past s e =
     → admits (shape k) (space (s .unit)) (l .entry) ≡ true
     → (Ok (l .entry .page) ≡ reading k s e) ⊎ (cleared (shape k) (l .slot) (l .entry .page) (l .later) ≡ true)
 
+-- a resolve of an address, with its translation on, that is settled after these requests
 pub record SettledResolve (m : Meaning) (rs : List Request) (n e : ℕ) (a : Access) : Type 0 where
   pub kind : access-of n ≡ Some a
   pub address : e < 2 ^ 32
   pub on : translates (kind-of a) (after (begin m) rs .unit .mode) ≡ true
   pub settled : Settled (kind-of a) (history (kind-of a) (begin m) rs) (after (begin m) rs) e
 
+-- a settled resolve answers what the reading gives
 abbrev pub Settled-answers : Type 0
 Settled-answers =
     (m : Meaning) (rs : List Request) (n e : ℕ) (a : Access)
@@ -92,6 +95,7 @@ Settled-answers =
     → step (asks true n e) (after (begin m) rs) .reply
     ≡ replies.Answer (reading-answer (shape (kind-of a)) (reading (kind-of a) (after (begin m) rs) e) (settings (kind-of a) (after (begin m) rs)) (after (begin m) rs .unit .mode .problem) a e)
 
+-- and two lives answer it alike, if reading, mode and protection settings agree
 abbrev pub Lives-alike : Type 0
 Lives-alike =
     (m m′ : Meaning) (rs rs′ : List Request) (n e : ℕ) (a : Access)
@@ -103,7 +107,7 @@ Lives-alike =
     → (step (asks true n e) (after (begin m) rs) .reply ≡ step (asks true n e) (after (begin m′) rs′) .reply)
     × (tells (step (asks true n e) (after (begin m) rs) .reply) ≡ tells (step (asks true n e) (after (begin m′) rs′) .reply))
 
--- (c) an accepted write to a kind's control register
+-- an accepted write to a kind's control register
 abbrev pub same-kind : Kind → Kind → Bool
 same-kind Instruction Instruction = true
 same-kind Instruction Data = false
@@ -164,6 +168,7 @@ pub record NotMissed (s : State) (n e : ℕ) : Type 0 where
   pub stays : next (asks true n e) s ≡ s
   pub alike : step (asks true n e) s .reply ≡ step (asks false n e) s .reply
 
+-- in its load's space, or in any if it is shared
 abbrev pub Loaded-stays : Type 0
 Loaded-stays =
     (k : Kind) (m : Meaning) (rs between : List Request) (n e i : ℕ) (a : Access) (x : Entry (Page k))

@@ -39,7 +39,7 @@ from-first m e (Err f) = StoppedFirst f
 unfoldable pub walked : Meaning → ℕ → ℕ → Walked
 walked m base e = from-first m e (first-word m base e)
 
--- the reading of e for a kind: the fault, or the page made of e and the two words
+-- the reading of e off such a walk: the fault, or the page made of e and the two words
 abbrev pub reading-by : {P : Type 0} → (ℕ → ℕ → ℕ → P) → ℕ → Walked → Result P Fault
 reading-by makes e (StoppedFirst f) = Err f
 reading-by makes e (StoppedSecond first f) = Err f
