@@ -3,25 +3,16 @@ use Prim.Native.Nat.{ℕ}
 use mathlib.Core.List.{List, [], _∷_, _++_}
 use Rattle.std.specs.declared.result.Result.{Result}
 use Rattle.std.specs.declared.result.Result.the-variants.{Ok, Err}
-use Rattle.board.specs.declared.bus.BusFault.{BusFault}
 use Rattle.board.specs.Memory.{Meaning, peeked, poked, stored}
 use Rattle.calls.specs.declared.answer.Answer.{Answer}
-use Rattle.calls.specs.declared.answer.Answer.the-variants.{Done, Value, Refused}
+use Rattle.calls.specs.declared.answer.Answer.the-variants.{Refused}
 use Rattle.calls.specs.declared.call.Call.{Call}
 use Rattle.calls.specs.declared.call.Call.the-variants.{Poke, Peek, Write, Read, Mode, Access, Resolve, Drop, DropAll, Tally}
 use Rattle.calls.specs.declared.fault.Fault.{Fault}
 use Rattle.calls.specs.declared.fault.Fault.the-variants.{Unreadable}
-use Rattle.calls.specs.Fault.{outside}
+use Rattle.calls.specs.Answer.{peek-answer, poke-answer}
 use Rattle.script.specs.declared.line.Line.{Line}
 use Rattle.text.specs.Answers.{text-of}
-
-abbrev pub peek-answer : Result ℕ BusFault → Answer
-peek-answer (Ok w) = Value w
-peek-answer (Err f) = Refused (outside f)
-
-abbrev pub poke-answer : Result (Unit {0}) BusFault → Answer
-poke-answer (Ok u) = Done
-poke-answer (Err f) = Refused (outside f)
 
 -- a call on line n; what asks a translation unit is not readable where there is none
 abbrev pub call-answer : Meaning → ℕ → Call → Answer

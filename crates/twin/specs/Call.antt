@@ -9,8 +9,7 @@ use Rattle.std.specs.declared.option.Option.the-variants.{None, Some}
 use Rattle.std.specs.declared.result.Result.{Result}
 use Rattle.std.specs.declared.result.Result.the-variants.{Ok, Err}
 use Rattle.board.specs.Memory.{Meaning, peeked, poked, stored}
-use Rattle.board.specs.declared.bus.BusFault.{BusFault}
-use Rattle.calls.specs.Fault.{outside}
+use Rattle.calls.specs.Answer.{peek-answer, poke-answer}
 use Rattle.calls.specs.declared.answer.Answer.{Answer}
 use Rattle.calls.specs.declared.answer.Answer.the-variants.{Done, Value, Refused}
 use Rattle.calls.specs.declared.call.Call as calls
@@ -45,14 +44,6 @@ pub record Outcome : Type 0 where
 -- an answer that leaves this unit and memory, with no event
 abbrev pub answered : Answer → Mmu → Meaning → Outcome
 answered a u m = record { reply = replies.Answer a; unit = u; memory = m; events = none }
-
-abbrev pub peek-answer : Result ℕ BusFault → Answer
-peek-answer (Ok w) = Value w
-peek-answer (Err f) = Refused (outside f)
-
-abbrev pub poke-answer : Result (Unit {0}) BusFault → Answer
-poke-answer (Ok u) = Done
-poke-answer (Err f) = Refused (outside f)
 
 -- registers
 abbrev pub write-by : Option Misuse → registers.Register → ℕ → ℕ → Mmu → Meaning → Outcome
