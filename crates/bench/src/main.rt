@@ -1,4 +1,6 @@
 // Reads a script from standard input, runs it, and prints the account.
+#![tactic(auto)]
+
 mod account;
 
 use account::account_of;

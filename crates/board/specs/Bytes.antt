@@ -1,5 +1,5 @@
 -- The map of memories over bytes. Assumes nothing.
-use Rattle.std.specs.Prelude.{ℕ, ◌+◌, ◌*◌, ◌/◌, ◌%◌, ◌^◌, Bool, cond, ◌&&◌, List, [], ◌∷◌, ◌++◌, length, take, drop, Some, None, Ok, Option, Result, nat_le, nat_lt, slice_index}
+use Rattle.std.specs.Prelude.{ℕ, ◌+◌, ◌*◌, ◌/◌, ◌%◌, ◌^◌, min, Bool, cond, ◌&&◌, List, [], ◌∷◌, ◌++◌, length, take, drop, Some, None, Ok, Option, Result, nat_le, nat_lt, slice_index}
 use Rattle.board.specs.declared.bus.BusFault.{BusFault}
 use Rattle.board.specs.declared.bus.Refusal.TheVariants.{Misaligned, NoWord}
 use Rattle.board.specs.Memory.{aligned, refuse}
@@ -31,3 +31,11 @@ bytes_of w = (w / 2 ^ 24 % 256) ∷ (w / 2 ^ 16 % 256) ∷ (w / 2 ^ 8 % 256) ∷
 -- the bytes with those a to a + 3 replaced by the bytes of w
 abbrev pub with_word : List ℕ → ℕ → ℕ → List ℕ
 with_word bs a w = take a bs ++ (bytes_of w ++ drop (a + 4) bs)
+
+-- how many words there are: no more than addresses
+abbrev pub words_in : List ℕ → ℕ
+words_in bs = min (length bs / 4) (2 ^ 30)
+
+-- the bytes that belong to no word
+abbrev pub tail : List ℕ → List ℕ
+tail bs = drop (4 * words_in bs) bs

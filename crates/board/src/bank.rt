@@ -1,5 +1,5 @@
 // Banks: one memory in front of another.
-ghost use Rattle.std.specs.Prelude.{◌≡◌};
+ghost use Rattle.std.specs.Prelude.{◌≡◌, ◌++◌};
 ghost use Rattle.board.specs.Bank.{bank, picked, shielded, routed_place};
 ghost use Rattle.board.specs.Memory.{poked, stored};
 ghost use Rattle.board.specs.Pile.{Both, pile_left};
@@ -43,7 +43,8 @@ fn poke_shielded<M: Memory>(
 ) -> Result<(), BusFault>
     ensures answer { result ≡ poked (shielded protect (M.Memory.meaning memory.old)) address }
     ensures left { shielded protect (M.Memory.meaning memory.new) ≡ stored (shielded protect (M.Memory.meaning memory.old)) address word }
-    ensures bytes { M.Memory.lent memory.new ≡ pile_left (poked (shielded protect (M.Memory.meaning memory.old)) address) (M.Memory.lent memory.old) (M.Memory.place memory.old address) word }
+    ensures same { M.Memory.spare memory.new ≡ M.Memory.spare memory.old }
+    ensures pile { M.Memory.lent memory.new ≡ pile_left (poked (shielded protect (M.Memory.meaning memory.old)) address) (M.Memory.lent memory.old) (M.Memory.place memory.old address) word }
     ensures places { M.Memory.place memory.new ≡ M.Memory.place memory.old }
 {
     if protect {
@@ -70,6 +71,8 @@ impl<A, B> Bank<A, B> {
 
 impl<A: Memory, B: Memory> Memory for Bank<A, B> {
     ghost meaning = { λ b. bank b.base b.mask b.protect (A.Memory.meaning b.first) (B.Memory.meaning b.second) };
+
+    ghost spare = { λ b. A.Memory.spare b.first ++ B.Memory.spare b.second };
 
     ghost lent = { λ b. Both (A.Memory.lent b.first) (B.Memory.lent b.second) };
 

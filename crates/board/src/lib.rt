@@ -1,4 +1,6 @@
 // Board memories behind one trait: RAM, ROM, void and banks of them.
+#![tactic(auto)]
+
 pub mod bank;
 pub mod bus;
 mod bytes;

@@ -1,5 +1,6 @@
 // RAM: bytes lent for writing.
 ghost use Rattle.std.specs.Prelude.{◌≡◌};
+ghost use Rattle.board.specs.Bytes.{tail};
 ghost use Rattle.board.specs.Memory.{peeked, poked, stored};
 ghost use Rattle.board.specs.Pile.{Lent, Here, pile_left};
 ghost use Rattle.board.specs.Ram.{ram, poked_bytes};
@@ -26,6 +27,8 @@ impl<'a> Ram<'a> {
 impl<'a> Memory for Ram<'a> {
     ghost meaning = { λ m. ram m.bytes.now };
 
+    ghost spare = { λ m. tail m.bytes.now };
+
     ghost lent = { λ m. Lent m.bytes.ghost_name m.bytes.now };
 
     // a word stands at its address, whatever the bytes are: so `places` is `Here ≡ Here`
@@ -40,10 +43,11 @@ impl<'a> Memory for Ram<'a> {
     fn poke(&mut self, address: u32, word: u32) -> Result<(), BusFault>
         ensures answer { result ≡ poked (ram self.old.bytes.now) address }
         ensures left { ram self.new.bytes.now ≡ stored (ram self.old.bytes.now) address word }
-        ensures bytes { Lent self.new.bytes.ghost_name self.new.bytes.now ≡ pile_left (poked (ram self.old.bytes.now) address) (Lent self.old.bytes.ghost_name self.old.bytes.now) (Here address) word }
+        ensures same { tail self.new.bytes.now ≡ tail self.old.bytes.now }
+        ensures bytes { self.new.bytes.now ≡ poked_bytes self.old.bytes.now address word }
+        ensures lent { self.new.bytes.ghost_name ≡ self.old.bytes.ghost_name }
+        ensures pile { Lent self.new.bytes.ghost_name self.new.bytes.now ≡ pile_left (poked (ram self.old.bytes.now) address) (Lent self.old.bytes.ghost_name self.old.bytes.now) (Here address) word }
         ensures places { Here ≡ Here }
-        ensures held { self.new.bytes.now ≡ poked_bytes self.old.bytes.now address word }
-        ensures same { self.new.bytes.ghost_name ≡ self.old.bytes.ghost_name }
     {
         let at = bytes::place(self.bytes.len(), address)?;
         let holder = word.to_be_bytes();

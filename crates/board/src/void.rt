@@ -13,6 +13,8 @@ pub struct Void;
 impl Memory for Void {
     ghost meaning = { λ _. void };
 
+    ghost spare = { λ _. [] };
+
     ghost lent = { λ _. Lent 0 [] };
 
     // there is no word to stand anywhere

@@ -1,4 +1,4 @@
--- What the results of calls are as answers. Assumes nothing.
+-- What a memory's answers, and the results of calls, are as answers to a call. Assumes nothing.
 use Rattle.std.specs.Prelude.{ℕ, Some, None, Ok, Err, Option, Result}
 use Rattle.board.specs.declared.bus.BusFault.{BusFault}
 use Rattle.calls.specs.Fault.{outside}
@@ -6,6 +6,14 @@ use Rattle.calls.specs.declared.answer.Answer.{Answer}
 use Rattle.calls.specs.declared.answer.Answer.TheVariants.{Done, Value, Miss, Granted, Refused}
 use Rattle.calls.specs.declared.answer.Grant.{Grant}
 use Rattle.calls.specs.declared.fault.Fault.{Fault}
+
+abbrev pub peek_answer : Result ℕ BusFault → Answer
+peek_answer (Ok w) = Value w
+peek_answer (Err f) = Refused (outside f)
+
+abbrev pub poke_answer : Result (Unit {0}) BusFault → Answer
+poke_answer (Ok u) = Done
+poke_answer (Err f) = Refused (outside f)
 
 -- a memory's result outside a tablewalk
 abbrev pub raised : {T : Type 0} → Result T BusFault → Result T Fault

@@ -1,4 +1,6 @@
 // What can be asked of a twin, how it answers, and how it refuses.
+#![tactic(auto)]
+
 pub mod answer;
 pub mod call;
 pub mod fault;

@@ -1,4 +1,6 @@
 // Examples of the bench language, at its limits. The crate has no code of its own.
+#![tactic(auto)]
+
 #[cfg(test)]
 mod lines;
 #[cfg(test)]

@@ -1,4 +1,6 @@
 // What is done with a page: rights, the verdict on a match, the tablewalk; and the worked values of the rules.
+#![tactic(auto)]
+
 pub mod figures;
 pub mod rights;
 pub mod verdict;

@@ -68,7 +68,7 @@ pub fn verdict<P: Page>(
     access: Access,
     address: u32,
 ) -> Result<Grant, Fault>
-    ensures { result ≡ gives (P.Page.shape.body page.now) (P.Page.shape.through page.now) (P.Page.shape.changed page.now) protection problem access address }
+    ensures { result ≡ gives (P.Page.body page.now) (P.Page.through page.now) (P.Page.marked page.now) protection problem access address }
 {
     let common = page.common();
     permitted(&common, protection, problem, access, address)?;

@@ -97,7 +97,7 @@ pub fn walk_second<M: Memory>(memory: &M, first: u32, address: u32) -> Result<u3
 
 // What the tables give for an address: a page of this kind, or the fault at which the walk stops.
 pub fn reading<P: Page, M: Memory>(memory: &M, base: u32, address: u32) -> Result<P, Fault>
-    ensures { result ≡ reading_of P.Page.shape.made (M.Memory.meaning memory.now) base address }
+    ensures { result ≡ reading_of P.Page.makes (M.Memory.meaning memory.now) base address }
 {
     let first = walk_first(memory, base, address)?;
     let second = walk_second(memory, first, address)?;

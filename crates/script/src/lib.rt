@@ -1,4 +1,6 @@
 // The bench language: how scripts read.
+#![tactic(auto)]
+
 mod form;
 pub mod line;
 mod name;

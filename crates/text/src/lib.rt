@@ -1,3 +1,5 @@
 // The bench language: how answers print, and the canonical form of a call.
+#![tactic(auto)]
+
 pub mod answers;
 pub mod canonical;

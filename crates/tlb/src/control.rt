@@ -60,11 +60,11 @@ impl Control {
     }
 
     // The slot that the next load fills.
-    pub fn index(self) -> u8
+    pub fn index(self) -> u32
         ensures value { result ≡ index_of self.0 }
         ensures slot { result < 32 }
     {
-        bits(self.0, 19, 23) as u8
+        bits(self.0, 19, 23)
     }
 
     // The same word with another index. Slots count modulo 32.

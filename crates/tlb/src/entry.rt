@@ -18,7 +18,7 @@ pub struct Entry<P> {
 impl<P: Page> Entry<P> {
     // The entry that EPN, TWC and RPN make.
     pub fn made(epn: u32, twc: u32, rpn: u32) -> Entry<P>
-        ensures { result ≡ entry_of P.Page.shape.made epn twc rpn }
+        ensures { result ≡ entry_of P.Page.makes epn twc rpn }
     {
         Entry {
             live: bit(epn, 22),
@@ -29,14 +29,14 @@ impl<P: Page> Entry<P> {
 
     // The entry as if filled from zeros, as every slot has it at first.
     pub fn zero() -> Entry<P>
-        ensures { result ≡ entry_of P.Page.shape.made 0 0 0 }
+        ensures { result ≡ entry_of P.Page.makes 0 0 0 }
     {
         Entry::made(0, 0, 0)
     }
 }
 
 impl<P: Page> Matching for Entry<P> {
-    ghost answers = { λ e a s. matched e.live e.space (P.Page.shape.body e.page) a s };
+    ghost answers = { λ e a s. matched e.live e.space (P.Page.body e.page) a s };
 
     fn matches(&self, address: u32, space: u32) -> bool {
         let page = self.page.common();

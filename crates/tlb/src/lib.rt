@@ -1,4 +1,6 @@
 // What the TLBs are made of: registers and their fields, pages, entries, the search.
+#![tactic(auto)]
+
 mod bits;
 pub mod control;
 pub mod descriptor;

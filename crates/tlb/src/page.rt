@@ -1,8 +1,8 @@
 // Pages.
-ghost use Rattle.std.specs.Prelude.{◌≡◌, ◌<◌, ◌&&◌};
+ghost use Rattle.std.specs.Prelude.{◌≡◌, ℕ, ◌<◌, Bool, true, false, ◌&&◌};
 ghost use Rattle.tlb.specs.Bits.{flag};
-ghost use Rattle.tlb.specs.Page.{offset_bits, bytes_in, size_of, common_of, contains, physical};
-ghost use Rattle.tlb.specs.Shape.{Shape, instruction_shape, data_shape};
+ghost use Rattle.tlb.specs.Page.{offset_bits, bytes_in, size_of, common_of, instruction_page, data_page, contains, physical};
+ghost use Rattle.tlb.specs.declared.page.Common.{Common};
 
 use crate::bits::{bit, bits, clear_low};
 
@@ -130,24 +130,38 @@ impl Common {
 
 // What is asked of either kind of page.
 pub trait Page: Copy {
-    // the page that EPN, TWC and RPN make, what both kinds have, write-through and changed
-    ghost shape: { Shape Self };
+    // the page that EPN, TWC and RPN make
+    ghost makes: { ℕ → ℕ → ℕ → Self };
+
+    // what both kinds have
+    ghost body: { Self → Common };
+
+    // write-through and changed; a page for fetches is never stored to, so it counts as changed
+    ghost through: { Self → Bool };
+
+    ghost marked: { Self → Bool };
 
     fn made(epn: u32, twc: u32, rpn: u32) -> Self
-        ensures { result ≡ shape.made epn twc rpn };
+        ensures { result ≡ makes epn twc rpn };
 
     fn common(&self) -> Common
-        ensures { result ≡ shape.body self.now };
+        ensures { result ≡ body self.now };
 
     fn write_through(&self) -> bool
-        ensures { result ≡ shape.through self.now };
+        ensures { result ≡ through self.now };
 
     fn changed(&self) -> bool
-        ensures { result ≡ shape.changed self.now };
+        ensures { result ≡ marked self.now };
 }
 
 impl Page for InstructionPage {
-    ghost shape = { instruction_shape };
+    ghost makes = { instruction_page };
+
+    ghost body = { λ p. p.common };
+
+    ghost through = { λ _. false };
+
+    ghost marked = { λ _. true };
 
     fn made(epn: u32, twc: u32, rpn: u32) -> InstructionPage {
         let common = Common::of(epn, twc, rpn);
@@ -168,7 +182,13 @@ impl Page for InstructionPage {
 }
 
 impl Page for DataPage {
-    ghost shape = { data_shape };
+    ghost makes = { data_page };
+
+    ghost body = { λ p. p.common };
+
+    ghost through = { λ p. p.write_through };
+
+    ghost marked = { λ p. p.changed };
 
     fn made(epn: u32, twc: u32, rpn: u32) -> DataPage {
         let common = Common::of(epn, twc, rpn);

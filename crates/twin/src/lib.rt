@@ -1,4 +1,6 @@
 // One translation unit over one memory: what every call means, and the promises over whole lives of calls.
+#![tactic(auto)]
+
 pub mod life;
 pub mod request;
 pub mod twin;

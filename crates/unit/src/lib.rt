@@ -1,4 +1,6 @@
 // The translation unit: its registers and slots, and every call on them.
+#![tactic(auto)]
+
 pub mod access;
 pub mod drops;
 pub mod load;

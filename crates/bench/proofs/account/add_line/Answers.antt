@@ -8,7 +8,7 @@ pub returns : goal.returns
 unfolding encode
 returns c =
     let before = string_bytes c.args.out.now in
-    let body : c.as-str.result.now ≡ text_of c.args.answer = c.as-str.ensures.value ∙ c.in-ok-text.ensures in
-    let one = pushed c.as-str.result.now refl c.in-ok-push-str.was c.push-str.ensures.bytes in
-    let two = pushed (encode 10) one c.in-ok-push.was c.push.ensures.bytes in
-    two ∙ append_assoc before c.as-str.result.now (10 ∷ []) ∙ ap (λ l. before ++ (l ++ 10 ∷ [])) body
+    let body : c.as_str.result.now ≡ text_of c.args.answer = c.as_str.ensures.value ∙ c.in_ok-text.ensures in
+    let one = pushed c.as_str.result.now refl c.in_ok-push_str.was c.push_str.ensures.bytes in
+    let two = pushed (encode 10) one c.in_ok-push.was c.push.ensures.bytes in
+    two ∙ append_assoc before c.as_str.result.now (10 ∷ []) ∙ ap (λ l. before ++ (l ++ 10 ∷ [])) body

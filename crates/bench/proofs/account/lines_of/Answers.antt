@@ -6,5 +6,5 @@ use Rattle.bench.proofs.account.lines_of.Goals as goal
 pub loop-line-preserved : goal.loop-line-preserved
 loop-line-preserved c =
     read_more (vec_items c.loop-line.lines) (vec_items c.push.new.self) (pending c.next.new.self) (pending c.loop-line.reader) c.in-Some.line
-    c.in-ok-push.ensures.items c.in-Some.ensures
+    c.in_ok-push.ensures.items c.in-Some.ensures
     ∙ c.loop-line.invariant

@@ -2,9 +2,9 @@ use Rattle.std.proofs.Common.{rules}
 use Rattle.mmu.specs.Verdict.{gives}
 use Rattle.mmu.proofs.verdict.verdict.Goals as goal
 
-pub returns-in-err-permitted : goal.returns-in-err-permitted
+pub returns-in_err-permitted : goal.returns-in_err-permitted
 unfolding gives
-returns-in-err-permitted g c = search rules
+returns-in_err-permitted g c = search rules
 
 pub returns-then-unmarked : goal.returns-then-unmarked
 unfolding gives

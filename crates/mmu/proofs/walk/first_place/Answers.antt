@@ -3,4 +3,4 @@ use Rattle.tlb.specs.Bits.{field}
 use Rattle.mmu.proofs.walk.first_place.Goals as goal
 
 pub returns : goal.returns
-returns c = compose c.args.base (field 0 9 c.args.address) c.level-one-index.result c.level-one-index.ensures (field_small 0 9 c.args.address)
+returns c = compose c.args.base (field 0 9 c.args.address) c.level_one_index.result c.level_one_index.ensures (field_small 0 9 c.args.address)

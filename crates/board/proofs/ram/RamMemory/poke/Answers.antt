@@ -5,12 +5,13 @@ use Rattle.board.proofs.ram.RamMemory.poke.Goals as goal
 
 pub returns : goal.returns
 returns c =
-    let done = accepted c.args.self.now.bytes.now c.to-be-bytes-holder.result c.args.address c.in-ok-at.at c.args.word c.ranges.word.fits c.to-be-bytes-holder.ensures (sym c.in-ok-at.ensures.value) in
+    let done = accepted c.args.self.now.bytes.now c.to_be_bytes-holder.result c.args.address c.in_ok-at.at c.args.word c.ranges.word.fits c.to_be_bytes-holder.ensures (sym c.in_ok-at.ensures.value) in
     record {
       answer = done.answer;
       left = done.left;
-      bytes = ap (Lent c.args.self.now.bytes.name) done.held ∙ lent_left _ c.args.self.now.bytes.name _ c.args.address c.args.word;
+      same = done.same;
+      bytes = done.bytes;
+      lent = refl;
+      pile = ap (Lent c.args.self.now.bytes.ghost_name) done.bytes ∙ lent_left _ c.args.self.now.bytes.ghost_name _ c.args.address c.args.word;
       places = refl;
-      held = done.held;
-      same = refl;
     }

@@ -4,4 +4,4 @@ use Rattle.mmu.proofs.rights.Protection.ruling.Goals as goal
 
 pub returns : goal.returns
 unfolding ruling_of
-returns c = c.rule.ensures ∙ ap (λ code. ruling_by c.args.self.group_mode code c.args.problem) c.group-code.ensures
+returns c = c.rule.ensures ∙ ap (λ code. ruling_by c.args.self.group_mode code c.args.problem) c.group_code.ensures

@@ -6,8 +6,8 @@ use Rattle.script.proofs.reader.Reader.new.Goals.{then-too-long, else-too-long}
 
 pub invariant-of-result : goal.invariant-of-result
 invariant-of-result c =
-    let bytes = c.if-too-long.kept.now in
+    let bytes = c.if-too_long.kept.now in
     let all = ap weight c.new-lines.ensures ∙ weight_split 10 bytes in
     let few : length bytes ≤ 65536 =
-    elim c.if-too-long.branch [ then-too-long w ↦ omega (arith, ap (λ r. length r.now) w.kept-is) | else-too-long w ↦ omega (arith, ap (λ r. length r.now) w.kept-is) ] in
+    elim c.if-too_long.branch [ then-too-long w ↦ omega (arith, ap (λ r. length r.now) w.kept-is) | else-too-long w ↦ omega (arith, ap (λ r. length r.now) w.kept-is) ] in
     (omega (arith, all), tt)

@@ -5,4 +5,4 @@ use Rattle.tlb.proofs.page.Common.contains.Goals as goal
 
 pub returns : goal.returns
 unfolding contains
-returns c = ap (λ n. eqb n c.args.self.now.first) (c.clear-low.ensures ∙ ap (λ k. cleared k c.args.address) c.offset_bits.ensures.value)
+returns c = ap (λ n. eqb n c.args.self.now.first) (c.clear_low.ensures ∙ ap (λ k. cleared k c.args.address) c.offset_bits.ensures.value)

@@ -7,9 +7,9 @@ pub returns : goal.returns
 unfolding common_of
 returns c =
     let size = c.of-size.ensures in
-    let offset = c.offset-bits-offset.ensures.value ∙ ap offset_bits size in
-    let first = c.clear-low.ensures ∙ ap (λ k. cleared k c.args.epn) offset in
-    let base = c.clear-low-2.ensures ∙ ap (λ k. cleared k c.args.rpn) offset in
+    let offset = c.offset_bits-offset.ensures.value ∙ ap offset_bits size in
+    let first = c.clear_low.ensures ∙ ap (λ k. cleared k c.args.epn) offset in
+    let base = c.clear_low-2.ensures ∙ ap (λ k. cleared k c.args.rpn) offset in
     λ i. record {
       size = size i;
       first = first i;
@@ -19,5 +19,5 @@ returns c =
       rights = c.bits-2.ensures i;
       shared = c.bit-2.ensures i;
       cache_inhibit = c.bit-3.ensures i;
-      valid = c.both-valid.ensures i;
+      valid = c.both_valid.ensures i;
     }

@@ -7,7 +7,7 @@ pub loop-slot-preserved : goal.loop-slot-preserved
 loop-slot-preserved g c =
     slots_more (dropped g.P.Page.shape c.args.address) c.args.self.now c.loop-slot.self c.loop-slot.slot c.index-self-slot.result _
     (omega (arith, c.len-slot-end.ensures.value, c.len-slot-end.ensures.all)) c.loop-slot.invariant c.index-self-slot.is
-    (c.end-holder.ensures ∙ ap (dropped g.P.Page.shape c.args.address) (sym c.index-self-slot.is))
+    (c.end_holder.ensures ∙ ap (dropped g.P.Page.shape c.args.address) (sym c.index-self-slot.is))
 
 pub returns : goal.returns
 returns g c = slots_all (dropped g.P.Page.shape c.args.address) c.args.self.now c.loop-slot.self c.loop-slot.slot (omega (arith, c.len-slot-end.ensures.value, c.len-slot-end.ensures.all)) c.loop-slot.invariant

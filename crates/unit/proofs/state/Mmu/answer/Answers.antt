@@ -15,5 +15,5 @@ pub returns-in-Data : goal.returns-in-Data
 returns-in-Data c =
     let u = c.args.self.now in
     let kind = sym c.in-Data.is ∙ c.kind-kind.ensures in
-    by_kind Data _ u c.args.access c.args.address c.space.result c.translates-on.result _ c.answer-in-Data.ensures
+    by_kind Data _ u c.args.access c.args.address c.space.result c.translates-on.result _ c.answer_in-Data.ensures
     (c.translates-on.ensures ∙ ap (λ k. translates k u.mode) c.in-Data.is) c.space.ensures.value kind

@@ -11,7 +11,7 @@ one_half : (j k : Kind) (u : Mmu) (e n current : ℕ) → n ≡ missed_epn e cur
 one_half j k u e n current epn is same = ap (λ x. put j (with_epn x (half j u)) u) (epn ∙ ap (missed_epn e) is) ∙ ap (λ i. missed_unit i e u) (sym same)
 
 pub returns-in-Instruction : goal.returns-in-Instruction
-returns-in-Instruction c = one_half Instruction _ c.args.self.now c.args.address _ _ c.missed-epn-epn.ensures c.space.ensures.value c.in-Instruction.is
+returns-in-Instruction c = one_half Instruction _ c.args.self.now c.args.address _ _ c.missed_epn-epn.ensures c.space.ensures.value c.in-Instruction.is
 
 pub returns-in-Data : goal.returns-in-Data
-returns-in-Data c = one_half Data _ c.args.self.now c.args.address _ _ c.missed-epn-epn.ensures c.space.ensures.value c.in-Data.is
+returns-in-Data c = one_half Data _ c.args.self.now c.args.address _ _ c.missed_epn-epn.ensures c.space.ensures.value c.in-Data.is

@@ -5,25 +5,25 @@ use Rattle.unit.specs.Load.{loaded_unit}
 use Rattle.unit.specs.Resolve.{walk_result, walk_unit}
 use Rattle.unit.proofs.state.Mmu.walk.Goals as goal
 
-pub returns-in-err-first : goal.returns-in-err-first
-returns-in-err-first g c =
+pub returns-in_err-first : goal.returns-in_err-first
+returns-in_err-first g c =
     let u = c.args.self.now in
-    let exit = err_from_is_err_and c.from-residual.result c.from-residual.ensures.1 in
-    let stop = stopped_first (g.M.Memory.meaning c.args.memory.now) u.twb c.args.address _ c.in-err-first.ensures in
+    let exit = err_from_is_err_and c.from_residual.result c.from_residual.ensures.1 in
+    let stop = stopped_first (g.M.Memory.meaning c.args.memory.now) u.twb c.args.address _ c.in_err-first.ensures in
     record { answer = exit.1 ∙ ap Err exit.2 ∙ ap walk_result stop; left = ap (λ o. walk_unit c.args.kind o u) stop }
 
-pub returns-in-err-second : goal.returns-in-err-second
-returns-in-err-second g c =
+pub returns-in_err-second : goal.returns-in_err-second
+returns-in_err-second g c =
     let u = c.args.self.now in
-    let exit = err_from_is_err_and c.from-residual-in-err-second.result c.from-residual-in-err-second.ensures.1 in
-    let stop = stopped_second (g.M.Memory.meaning c.args.memory.now) u.twb c.args.address _ _ c.in-ok-first.ensures c.in-err-second.ensures in
-    record { answer = exit.1 ∙ ap Err exit.2 ∙ ap walk_result stop; left = c.keep-first.ensures ∙ ap (λ o. walk_unit c.args.kind o u) stop }
+    let exit = err_from_is_err_and c.from_residual-in_err-second.result c.from_residual-in_err-second.ensures.1 in
+    let stop = stopped_second (g.M.Memory.meaning c.args.memory.now) u.twb c.args.address _ _ c.in_ok-first.ensures c.in_err-second.ensures in
+    record { answer = exit.1 ∙ ap Err exit.2 ∙ ap walk_result stop; left = c.keep_first.ensures ∙ ap (λ o. walk_unit c.args.kind o u) stop }
 
 pub returns : goal.returns
 returns g c =
     let u = c.args.self.now in
-    let stop = passed_both (g.M.Memory.meaning c.args.memory.now) u.twb c.args.address _ _ c.in-ok-first.ensures c.in-ok-second.ensures in
+    let stop = passed_both (g.M.Memory.meaning c.args.memory.now) u.twb c.args.address _ _ c.in_ok-first.ensures c.in_ok-second.ensures in
     record {
       answer = ap walk_result stop;
-      left = c.load.ensures ∙ ap (loaded_unit c.args.kind c.in-ok-second.second) c.keep-first.ensures ∙ ap (λ o. walk_unit c.args.kind o u) stop;
+      left = c.load.ensures ∙ ap (loaded_unit c.args.kind c.in_ok-second.second) c.keep_first.ensures ∙ ap (λ o. walk_unit c.args.kind o u) stop;
     }
