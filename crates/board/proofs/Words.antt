@@ -1,12 +1,12 @@
 -- Laws of words in bytes: what four writes make of a list, and of its map. Assumes nothing.
-use Rattle.std.proofs.Common.{◌≡◌, ℕ, zero, suc, ◌+◌, ◌*◌, ◌/◌, ◌%◌, ◌^◌, ◌<◌, ◌≤◌, min, Bool, true, false, cond, ◌&&◌, eqb, ltb, leb, ◌≢◌, List, [], ◌∷◌, ◌++◌, length, get_or, take, drop, set, Some, None, Ok, Err, Option, Result, sym, refl, ap, ◌∙◌, subst, ⊎_elim, arith, length-set}
+use Rattle.std.proofs.Common.{◌≡◌, ℕ, zero, suc, ◌+◌, ◌*◌, ◌/◌, ◌%◌, ◌^◌, ◌<◌, ◌≤◌, min, Bool, true, false, cond, eqb, ltb, leb, ◌≢◌, List, [], ◌∷◌, ◌++◌, length, get_or, take, drop, set, Some, None, Ok, Err, Result, sym, refl, ap, ◌∙◌, subst, arith, length-set}
 use Rattle.std.proofs.lemmas.List.{get_or-set_same, get_or-set_other, drop-set-lt}
 use Rattle.std.proofs.lemmas.Nat.{mod-pow-add}
-use Rattle.std.proofs.lemmas.Bool.{true≢false, eqb-true, eqb-false, cases_Bool, and_parts, cond-true, cond-false, eq-eqb, ne_eqb, leb-true, ltb-true}
+use Rattle.std.proofs.lemmas.Bool.{true≢false, eqb-true, eqb-false, and_parts, ne_eqb, leb-true, ltb-true}
 use Rattle.board.specs.declared.bus.BusFault.{BusFault}
-use Rattle.board.specs.Bytes.{word_of, big_endian, inside, word_in, placed, bytes_of, with_word, words_in, tail}
+use Rattle.board.specs.Bytes.{word_of, big_endian, inside, word_in, placed, bytes_of, words_in, tail}
 use Rattle.board.specs.declared.bus.Refusal.TheVariants.{Misaligned, NoWord}
-use Rattle.board.specs.Memory.{Meaning, aligned, refuse, poked, left, stored}
+use Rattle.board.specs.Memory.{aligned, refuse, poked, left, stored}
 use Rattle.board.specs.Pile.{Lent, Here, pile_left}
 use Rattle.board.specs.Ram.{ram, bytes_left, poked_bytes}
 

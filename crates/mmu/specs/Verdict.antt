@@ -1,5 +1,5 @@
 -- What a page gives: the answer to an access that matches it. Assumes nothing.
-use Rattle.std.specs.Prelude.{ℕ, Bool, true, false, cond, not, Ok, Err, Result}
+use Rattle.std.specs.Prelude.{ℕ, Bool, false, cond, not, Ok, Err, Result}
 use Rattle.calls.specs.declared.answer.Grant.{Grant}
 use Rattle.calls.specs.declared.fault.Denial.{Denial}
 use Rattle.calls.specs.declared.fault.Denial.TheVariants.{Invalid, Group, Rights, Unchanged}

@@ -1,5 +1,5 @@
 -- Pages: sizes, and what is made of EPN, TWC and RPN. Assumes nothing.
-use Rattle.std.specs.Prelude.{ℕ, ◌+◌, ◌-◌, ◌%◌, ◌^◌, Bool, true, false, cond, ◌&&◌, ◌==◌}
+use Rattle.std.specs.Prelude.{ℕ, ◌+◌, ◌%◌, ◌^◌, Bool, cond, ◌&&◌, ◌==◌}
 use Rattle.tlb.specs.Bits.{field, flag, cleared}
 use Rattle.tlb.specs.declared.page.Common.{Common}
 use Rattle.tlb.specs.declared.page.DataPage.{DataPage}

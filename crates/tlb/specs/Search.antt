@@ -1,6 +1,5 @@
 -- The lowest element of a list that passes a test. Assumes nothing.
 use Rattle.std.specs.Prelude.{ℕ, ◌+◌, Bool, cond, List, [], ◌∷◌, Some, None, Option}
-use Rattle.std.specs.Option.{option_map}
 
 -- its index, counted from n
 abbrev pub lowest_from : {X : Type 0} → (X → Bool) → ℕ → List X → Option ℕ

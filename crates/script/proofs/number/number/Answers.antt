@@ -1,7 +1,7 @@
 use Rattle.std.proofs.Common.{◌≡◌, ◌≤◌, cond, ◌&&◌, length, get_or, drop, sym, ap, ◌∙◌, arith}
 use Rattle.std.proofs.lemmas.Slice.{between_to_end}
 use Rattle.std.proofs.lemmas.Bool.{eq-eqb}
-use Rattle.script.specs.Number.{numeral, number_of}
+use Rattle.script.specs.Number.{numeral}
 use Rattle.script.proofs.number.number.Goals as goal
 
 pub returns-in-48 : goal.returns-in-48

@@ -1,6 +1,6 @@
-use Rattle.std.proofs.Common.{◌≡◌, ap, ◌∙◌}
+use Rattle.std.proofs.Common.{ap, ◌∙◌}
 use Rattle.tlb.specs.Bits.{cleared}
-use Rattle.tlb.specs.Page.{offset_bits, size_of, common_of}
+use Rattle.tlb.specs.Page.{offset_bits, common_of}
 use Rattle.tlb.proofs.page.Common.of.Goals as goal
 
 pub returns : goal.returns

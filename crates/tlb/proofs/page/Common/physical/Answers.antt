@@ -1,4 +1,4 @@
-use Rattle.std.proofs.Common.{◌≡◌, ◌+◌, ◌-◌, ◌*◌, ◌/◌, ◌%◌, ◌^◌, ap, ◌∙◌}
+use Rattle.std.proofs.Common.{◌-◌, ap, ◌∙◌}
 use lib.Bits.{bit_and, bit_or}
 use Rattle.tlb.proofs.Fields.{join_offset}
 use Rattle.tlb.specs.Bits.{cleared}
