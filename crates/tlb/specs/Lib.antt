@@ -4,4 +4,3 @@ pub mod Entry
 pub mod Page
 pub mod Register
 pub mod Search
-pub mod Shape

@@ -8,7 +8,7 @@ use Rattle.calls.specs.declared.call.Call.TheVariants.{Poke, Peek, Write, Read, 
 use Rattle.calls.specs.declared.fault.Misuse.{Misuse}
 use Rattle.mmu.specs.declared.rights.Access as accesses
 use Rattle.tlb.specs.Bits.{field, flag}
-use Rattle.tlb.specs.Control.{index_of, next_index, reserve, with_index}
+use Rattle.tlb.specs.Control.{index_of, next_index, reserve}
 use Rattle.tlb.specs.Register.{register_at}
 use Rattle.tlb.specs.declared.entry.Entry.{Entry}
 use Rattle.tlb.specs.declared.register.Kind.{Kind}
@@ -19,22 +19,26 @@ use Rattle.twin.proofs.Follows.{index_small}
 use Rattle.twin.proofs.Pages.{next_small}
 use Rattle.twin.proofs.Sources.{no_true}
 use Rattle.mmu.specs.Rights.{access_of, kind_of}
-use Rattle.twin.specs.Call.{outcome, call_outcome, access_outcome, resolve_outcome}
-use Rattle.unit.specs.Access.{slot_found, access_left, found_left}
-use Rattle.unit.specs.Event.{Event, Loaded, Dropped, DroppedAll, only, none}
-use Rattle.unit.specs.Load.{missed_unit, load_event, loaded_entry, loaded_unit}
-use Rattle.unit.specs.Registers.{misused, register_written, write_events, unless, write_unit, write_made}
-use Rattle.unit.specs.Resolve.{Walked, StoppedFirst, StoppedSecond, Passed, walked, resolved, resolve_found, resolve_walked, resolve_missed, first_written}
-use Rattle.unit.specs.State.{translates, Page, shape, half, put, space}
+use Rattle.twin.specs.Access.{translates, slot_found, access_left, found_left, missed_unit}
+use Rattle.twin.specs.Call.{outcome, call_outcome, write_outcome, write_by, access_outcome, resolve_outcome}
 use Rattle.twin.specs.History.{refills, refilled, loads_in}
 use Rattle.twin.specs.Life.{State, begin, step, next, after, history}
+use Rattle.tlb.specs.Control.{with_index}
+use Rattle.twin.specs.Load.{Event, Loaded, Dropped, DroppedAll, load_event, loaded_entry}
 use Rattle.twin.specs.Promises.{sets, call_sets, sets_control, some_sets, same_kind, accepted}
+use Rattle.twin.specs.Registers.{misused, register_written, write_events}
+use Rattle.twin.specs.Resolve.{Walked, StoppedFirst, StoppedSecond, Passed, walked, resolved, resolve_found, resolve_walked, resolve_missed, first_written, loaded_unit, only}
+use Rattle.twin.specs.Unit.{Page, shape, half, put, space}
 use Rattle.twin.specs.declared.request.Request.{Request}
 use Rattle.twin.specs.declared.request.Request.TheVariants as requests
-use Rattle.unit.specs.declared.state.Half.{Half}
-use Rattle.unit.specs.declared.state.Mmu.{Mmu}
+use Rattle.twin.specs.declared.unit.Half.{Half}
+use Rattle.twin.specs.declared.unit.Mmu.{Mmu}
 
--- a control register with another index has its reserve bit
+-- a control register with another index has that index, and its reserve bit
+pub index_set : (i c : ℕ) → i < 32 → index_of (with_index i c) ≡ i
+unfolding with_index
+index_set i c h = omega arith
+
 pub reserve_set : (i c : ℕ) → i < 32 → reserve (with_index i c) ≡ reserve c
 unfolding with_index
 reserve_set i c h = ap (λ n. eqb n 1) (omega (arith, shr-shr c 13 14))
@@ -71,12 +75,9 @@ move_control Data Data w u e = no_true (sym e)
 
 move_written : (r : Register) (w : ℕ) (k : Kind) (u : Mmu) → misused r w ≡ None → sets_control k (Some r) w ≡ false → Moved k u (register_written r w u) (write_events r w u k)
 move_written (Ctr j) w k u ok e = move_control j k w u (ap (λ o. same_kind j k && accepted o) (sym ok) ∙ e)
-move_written (Ap Instruction) w k u ok e = quiet k u (register_written (Ap Instruction) w u) (same_ctr Instruction k _ u refl)
-move_written (Ap Data) w k u ok e = quiet k u (register_written (Ap Data) w u) (same_ctr Data k _ u refl)
-move_written (Epn Instruction) w k u ok e = quiet k u (register_written (Epn Instruction) w u) (same_ctr Instruction k _ u refl)
-move_written (Epn Data) w k u ok e = quiet k u (register_written (Epn Data) w u) (same_ctr Data k _ u refl)
-move_written (Twc Instruction) w k u ok e = quiet k u (register_written (Twc Instruction) w u) (same_ctr Instruction k _ u refl)
-move_written (Twc Data) w k u ok e = quiet k u (register_written (Twc Data) w u) (same_ctr Data k _ u refl)
+move_written (Ap j) w k u ok e = quiet k u (register_written (Ap j) w u) (same_ctr j k _ u refl)
+move_written (Epn j) w k u ok e = quiet k u (register_written (Epn j) w u) (same_ctr j k _ u refl)
+move_written (Twc j) w k u ok e = quiet k u (register_written (Twc j) w u) (same_ctr j k _ u refl)
 move_written (Rpn j) w k u ok e = move_load j k _ u u (λ l. refl)
 move_written Casid w Instruction u ok e = quiet Instruction u (register_written Casid w u) refl
 move_written Casid w Data u ok e = quiet Data u (register_written Casid w u) refl
@@ -85,13 +86,13 @@ move_written Twb w Data u ok e = quiet Data u (register_written Twb w u) refl
 move_written Tw w Instruction u ok e = quiet Instruction u (register_written Tw w u) refl
 move_written Tw w Data u ok e = quiet Data u (register_written Tw w u) refl
 
-move_unless : (o : Option Misuse) (r : Register) (w : ℕ) (k : Kind) (u : Mmu) → misused r w ≡ o → sets_control k (Some r) w ≡ false → Moved k u (unless o u (register_written r w u)) (unless o none (write_events r w u) k)
-move_unless (Some why) r w k u ok e = quiet k u u refl
-move_unless None r w k u ok e = move_written r w k u ok e
+move_by : (o : Option Misuse) (r : Register) (n w : ℕ) (m : Meaning) (k : Kind) (u : Mmu) → misused r w ≡ o → sets_control k (Some r) w ≡ false → Moved k u (write_by o r n w u m).unit ((write_by o r n w u m).events k)
+move_by (Some why) r n w m k u ok e = quiet k u u refl
+move_by None r n w m k u ok e = move_written r w k u ok e
 
-move_write : (o : Option Register) (w : ℕ) (k : Kind) (u : Mmu) → sets_control k o w ≡ false → Moved k u (write_unit o w u) (write_made o w u k)
-move_write None w k u e = quiet k u u refl
-move_write (Some r) w k u e = move_unless (misused r w) r w k u refl e
+move_write : (o : Option Register) (n w : ℕ) (m : Meaning) (k : Kind) (u : Mmu) → sets_control k o w ≡ false → Moved k u (write_outcome o n w u m).unit ((write_outcome o n w u m).events k)
+move_write None n w m k u e = quiet k u u refl
+move_write (Some r) n w m k u e = move_by (misused r w) r n w m k u refl e
 
 -- accesses
 missed_ctr : (j k : Kind) (e : ℕ) (u : Mmu) → (half k (missed_unit j e u)).ctr ≡ (half k u).ctr
@@ -139,7 +140,7 @@ move_resolve (Some a) n e m k u = move_resolved (translates (kind_of a) u.mode) 
 move_call : (c : calls.Call) (m : Meaning) (k : Kind) (u : Mmu) → call_sets k c ≡ false → Moved k u (call_outcome c u m).unit ((call_outcome c u m).events k)
 move_call (Poke a w) m k u e = quiet k u u refl
 move_call (Peek a) m k u e = quiet k u u refl
-move_call (Write n w) m k u e = move_write (register_at n) w k u e
+move_call (Write n w) m k u e = move_write (register_at n) n w m k u e
 move_call (Read n) m k u e = quiet k u u refl
 move_call (Mode p i d) m Instruction u e = quiet Instruction u (call_outcome (Mode p i d) u m).unit refl
 move_call (Mode p i d) m Data u e = quiet Data u (call_outcome (Mode p i d) u m).unit refl

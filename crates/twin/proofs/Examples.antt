@@ -12,11 +12,9 @@ use Rattle.twin.proofs.Staying.{loads_append}
 use Rattle.twin.specs.Example.{Example}
 use Rattle.twin.specs.History.{LoadIn, clears, cleared, loads_in}
 use Rattle.tlb.specs.Control.{with_index}
-use Rattle.tlb.specs.Shape.{Shape}
-use Rattle.unit.specs.Event.{Event, Loaded, Dropped}
-use Rattle.unit.specs.Load.{missed_epn}
-use Rattle.unit.specs.Resolve.{walked}
-use Rattle.unit.specs.State.{shape}
+use Rattle.twin.specs.Load.{Event, Loaded, Dropped, missed_epn}
+use Rattle.twin.specs.Resolve.{walked}
+use Rattle.twin.specs.Unit.{Shape, shape}
 
 module _ {P : Type 0} where
   tail : List (Event P) → List (Event P)

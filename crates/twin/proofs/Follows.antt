@@ -15,18 +15,17 @@ use Rattle.tlb.specs.declared.register.Register.{Register}
 use Rattle.tlb.specs.declared.register.Register.TheVariants.{Ctr, Ap, Epn, Twc, Rpn, Casid, Twb, Tw}
 use Rattle.twin.proofs.Slots.{Follows, follows_new, follows_load, follows_drop, follows_drop_all}
 use Rattle.mmu.specs.Rights.{access_of, kind_of}
-use Rattle.twin.specs.Call.{Outcome, outcome, call_outcome}
-use Rattle.unit.specs.Access.{slot_found, access_left, found_left, access_unit}
-use Rattle.unit.specs.Event.{Event, only, none}
-use Rattle.unit.specs.Load.{missed_unit, load_event, loaded_unit}
-use Rattle.unit.specs.Registers.{misused, register_written, kept_written, write_events, unless, write_unit, write_made}
-use Rattle.unit.specs.Resolve.{Walked, StoppedFirst, StoppedSecond, Passed, walked, resolved, resolve_found, resolve_walked, resolve_missed, first_written, first_data, resolve_of}
-use Rattle.unit.specs.State.{translates, Page, shape, half, put, zero_entry, space}
+use Rattle.twin.specs.Access.{translates, slot_found, access_left, found_left, missed_unit}
+use Rattle.twin.specs.Call.{Outcome, outcome, call_outcome, write_outcome, write_by, access_outcome, resolve_outcome}
 use Rattle.twin.specs.Life.{State, begin, step, next, after, history}
+use Rattle.twin.specs.Load.{Event, load_event}
+use Rattle.twin.specs.Registers.{misused, register_written, kept_written, write_events}
+use Rattle.twin.specs.Resolve.{Walked, StoppedFirst, StoppedSecond, Passed, walked, resolved, resolve_found, resolve_walked, resolve_missed, first_written, first_data, loaded_unit, only}
+use Rattle.twin.specs.Unit.{Page, shape, half, put, zero_entry, space}
 use Rattle.twin.specs.declared.request.Request.{Request}
 use Rattle.twin.specs.declared.request.Request.TheVariants as requests
-use Rattle.unit.specs.declared.state.Half.{Half}
-use Rattle.unit.specs.declared.state.Mmu.{Mmu}
+use Rattle.twin.specs.declared.unit.Half.{Half}
+use Rattle.twin.specs.declared.unit.Mmu.{Mmu}
 
 -- the slots of kind k are as this past has them
 abbrev pub Kept : (k : Kind) → List (Event (Page k)) → Mmu → Type 0
@@ -53,14 +52,10 @@ kept_load Data Data w past u f = follows_load (shape Data) (zero_entry Data) pas
 
 -- register writes
 kept_write : (r : Register) (w : ℕ) (k : Kind) (past : List (Event (Page k))) (u : Mmu) → Kept k past u → Kept k (write_events r w u k ++ past) (register_written r w u)
-kept_write (Ctr Instruction) w k past u f = moved k past u _ (same_slots Instruction k _ u refl) f
-kept_write (Ctr Data) w k past u f = moved k past u _ (same_slots Data k _ u refl) f
-kept_write (Ap Instruction) w k past u f = moved k past u _ (same_slots Instruction k _ u refl) f
-kept_write (Ap Data) w k past u f = moved k past u _ (same_slots Data k _ u refl) f
-kept_write (Epn Instruction) w k past u f = moved k past u _ (same_slots Instruction k _ u refl) f
-kept_write (Epn Data) w k past u f = moved k past u _ (same_slots Data k _ u refl) f
-kept_write (Twc Instruction) w k past u f = moved k past u _ (same_slots Instruction k _ u refl) f
-kept_write (Twc Data) w k past u f = moved k past u _ (same_slots Data k _ u refl) f
+kept_write (Ctr j) w k past u f = moved k past u _ (same_slots j k _ u refl) f
+kept_write (Ap j) w k past u f = moved k past u _ (same_slots j k _ u refl) f
+kept_write (Epn j) w k past u f = moved k past u _ (same_slots j k _ u refl) f
+kept_write (Twc j) w k past u f = moved k past u _ (same_slots j k _ u refl) f
 kept_write (Rpn j) w k past u f = kept_load j k _ past u f
 kept_write Casid w Instruction past u f = f
 kept_write Casid w Data past u f = f
@@ -69,14 +64,13 @@ kept_write Twb w Data past u f = f
 kept_write Tw w Instruction past u f = f
 kept_write Tw w Data past u f = f
 
--- a refused write changes nothing
-kept_unless : (o : Option Misuse) (k : Kind) (past : List (Event (Page k))) (u v : Mmu) (vs : (j : Kind) → List (Event (Page j))) → Kept k past u → Kept k (vs k ++ past) v → Kept k (unless o none vs k ++ past) (unless o u v)
-kept_unless (Some why) k past u v vs f g = f
-kept_unless None k past u v vs f g = g
+kept_write_by : (o : Option Misuse) (r : Register) (n w : ℕ) (m : Meaning) (k : Kind) (past : List (Event (Page k))) (u : Mmu) → Kept k past u → Kept k ((write_by o r n w u m).events k ++ past) (write_by o r n w u m).unit
+kept_write_by (Some why) r n w m k past u f = f
+kept_write_by None r n w m k past u f = kept_write r w k past u f
 
-kept_write_made : (o : Option Register) (w : ℕ) (k : Kind) (past : List (Event (Page k))) (u : Mmu) → Kept k past u → Kept k (write_made o w u k ++ past) (write_unit o w u)
-kept_write_made None w k past u f = f
-kept_write_made (Some r) w k past u f = kept_unless (misused r w) k past u (register_written r w u) (write_events r w u) f (kept_write r w k past u f)
+kept_write_outcome : (o : Option Register) (n w : ℕ) (m : Meaning) (k : Kind) (past : List (Event (Page k))) (u : Mmu) → Kept k past u → Kept k ((write_outcome o n w u m).events k ++ past) (write_outcome o n w u m).unit
+kept_write_outcome None n w m k past u f = f
+kept_write_outcome (Some r) n w m k past u f = kept_write_by (misused r w) r n w m k past u f
 
 -- accesses
 kept_missed : (j k : Kind) (e : ℕ) (past : List (Event (Page k))) (u : Mmu) → Kept k past u → Kept k past (missed_unit j e u)
@@ -90,9 +84,9 @@ kept_access : (t : Bool) (j : Kind) (e : ℕ) (k : Kind) (past : List (Event (Pa
 kept_access false j e k past u f = f
 kept_access true j e k past u f = kept_found j (slot_found (shape j) (half j u) e (space u)) e k past u f
 
-kept_access_unit : (o : Option accesses.Access) (e : ℕ) (k : Kind) (past : List (Event (Page k))) (u : Mmu) → Kept k past u → Kept k past (access_unit o e u)
-kept_access_unit None e k past u f = f
-kept_access_unit (Some a) e k past u f = kept_access (translates (kind_of a) u.mode) (kind_of a) e k past u f
+kept_access_outcome : (o : Option accesses.Access) (n e : ℕ) (m : Meaning) (k : Kind) (past : List (Event (Page k))) (u : Mmu) → Kept k past u → Kept k ((access_outcome o n e u m).events k ++ past) (access_outcome o n e u m).unit
+kept_access_outcome None n e m k past u f = f
+kept_access_outcome (Some a) n e m k past u f = kept_access (translates (kind_of a) u.mode) (kind_of a) e k past u f
 
 -- resolves
 kept_first_data : (k : Kind) (w : ℕ) (past : List (Event (Page k))) (u : Mmu) → Kept k past u → Kept k past (first_data w u)
@@ -116,20 +110,20 @@ kept_resolved : (t : Bool) (j : Kind) (m : Meaning) (a : accesses.Access) (e : �
 kept_resolved false j m a e k past u f = f
 kept_resolved true j m a e k past u f = kept_resolve_found j (slot_found (shape j) (half j u) e (space u)) m a e k past u f
 
-kept_resolve_of : (o : Option accesses.Access) (n e : ℕ) (m : Meaning) (k : Kind) (past : List (Event (Page k))) (u : Mmu) → Kept k past u → Kept k ((resolve_of o n e m u).events k ++ past) (resolve_of o n e m u).unit
-kept_resolve_of None n e m k past u f = f
-kept_resolve_of (Some a) n e m k past u f = kept_resolved (translates (kind_of a) u.mode) (kind_of a) m a e k past u f
+kept_resolve_outcome : (o : Option accesses.Access) (n e : ℕ) (m : Meaning) (k : Kind) (past : List (Event (Page k))) (u : Mmu) → Kept k past u → Kept k ((resolve_outcome o n e u m).events k ++ past) (resolve_outcome o n e u m).unit
+kept_resolve_outcome None n e m k past u f = f
+kept_resolve_outcome (Some a) n e m k past u f = kept_resolved (translates (kind_of a) u.mode) (kind_of a) m a e k past u f
 
 -- every call changes the slots as its events say
 pub kept_call : (c : Call) (m : Meaning) (k : Kind) (past : List (Event (Page k))) (u : Mmu) → Kept k past u → Kept k ((call_outcome c u m).events k ++ past) (call_outcome c u m).unit
 kept_call (Poke a w) m k past u f = f
 kept_call (Peek a) m k past u f = f
-kept_call (Write n w) m k past u f = kept_write_made (register_at n) w k past u f
+kept_call (Write n w) m k past u f = kept_write_outcome (register_at n) n w m k past u f
 kept_call (Read n) m k past u f = f
 kept_call (Mode p i d) m Instruction past u f = f
 kept_call (Mode p i d) m Data past u f = f
-kept_call (Access n e) m k past u f = kept_access_unit (access_of n) e k past u f
-kept_call (Resolve n e) m k past u f = kept_resolve_of (access_of n) n e m k past u f
+kept_call (Access n e) m k past u f = kept_access_outcome (access_of n) n e m k past u f
+kept_call (Resolve n e) m k past u f = kept_resolve_outcome (access_of n) n e m k past u f
 kept_call (Drop e) m Instruction past u f = follows_drop (shape Instruction) (zero_entry Instruction) past _ f e
 kept_call (Drop e) m Data past u f = follows_drop (shape Data) (zero_entry Data) past _ f e
 kept_call DropAll m Instruction past u f = follows_drop_all (shape Instruction) (zero_entry Instruction) past _ f _

@@ -12,18 +12,18 @@ use Rattle.twin.proofs.Follows.{Kept, kept_life, kept_step}
 use Rattle.twin.proofs.Slots.{holds}
 use Rattle.twin.proofs.Sources.{no_true, Found, find_source, source_of, At, found_at, serves_live}
 use Rattle.mmu.specs.Rights.{access_of, kind_of}
+use Rattle.twin.specs.Access.{translates, serves, slot_found, page_gives, answer_of, found_answer, translated_answer, access_answer, access_left, found_left}
 use Rattle.twin.specs.Call.{Outcome, access_outcome, resolve_outcome}
-use Rattle.unit.specs.Access.{serves, slot_found, page_gives, answer_of, found_answer, translated_answer, access_answer, access_left, found_left}
-use Rattle.unit.specs.Event.{Event}
-use Rattle.unit.specs.Resolve.{Walked, StoppedFirst, StoppedSecond, Passed, walked, ResultOf, resolved, resolve_found, resolve_walked, resolve_missed}
-use Rattle.unit.specs.State.{translates, Page, shape, half, zero_entry, space}
 use Rattle.twin.specs.History.{Source}
 use Rattle.twin.specs.Life.{State, begin, step, next, after, history}
+use Rattle.twin.specs.Load.{Event}
 use Rattle.twin.specs.Promises.{asks, settings, Sourced, GrantsSourced}
+use Rattle.twin.specs.Resolve.{Walked, StoppedFirst, StoppedSecond, Passed, walked, ResultOf, resolved, resolve_found, resolve_walked, resolve_missed}
+use Rattle.twin.specs.Unit.{Page, shape, half, zero_entry, space}
 use Rattle.twin.specs.declared.request.Reply.{Reply}
 use Rattle.twin.specs.declared.request.Reply.TheVariants as replies
 use Rattle.twin.specs.declared.request.Request.{Request}
-use Rattle.unit.specs.declared.state.Mmu.{Mmu}
+use Rattle.twin.specs.declared.unit.Mmu.{Mmu}
 
 granted_ok : (r : Result Grant Fault) (g : Grant) → answer_of r ≡ Granted g → r ≡ Ok g
 granted_ok (Ok x) g e = cc

@@ -1,11 +1,8 @@
-pub mod Asking
 pub mod Counting
 pub mod Examples
 pub mod Follows
 pub mod Grants
 pub mod Pages
-pub mod Ram
-pub mod Reloading
 pub mod Settling
 pub mod Slots
 pub mod Sources

@@ -19,21 +19,19 @@ use Rattle.twin.proofs.Pages.{page_same, loaded_serves, index_mode, space_small,
 use Rattle.twin.proofs.Slots.{holds}
 use Rattle.twin.proofs.Sources.{no_true, source_of}
 use Rattle.mmu.specs.Rights.{access_of, kind_of}
-use Rattle.tlb.specs.Shape.{Shape}
+use Rattle.twin.specs.Access.{translates, serves, slot_found, page_gives, answer_of, found_answer, translated_answer, protection}
 use Rattle.twin.specs.Call.{resolve_outcome}
-use Rattle.unit.specs.Access.{serves, slot_found, page_gives, answer_of, found_answer, translated_answer, protection}
-use Rattle.unit.specs.Event.{Event}
-use Rattle.unit.specs.Load.{loaded, loaded_entry, loaded_unit}
-use Rattle.unit.specs.Resolve.{Walked, StoppedFirst, StoppedSecond, Passed, behind_first, from_first, walked, reading_by, resolved, resolve_found, resolve_walked, resolve_missed, first_written}
-use Rattle.unit.specs.State.{translates, Page, shape, half, zero_entry, space}
 use Rattle.twin.specs.History.{LoadIn, Source, cleared}
 use Rattle.twin.specs.Life.{State, begin, step, next, after, history}
+use Rattle.twin.specs.Load.{Event, loaded, loaded_entry}
 use Rattle.twin.specs.Promises.{asks, settings, reading, reading_answer, Settled, SettledResolve, SettledAnswers, LivesAlike}
+use Rattle.twin.specs.Resolve.{Walked, StoppedFirst, StoppedSecond, Passed, behind_first, from_first, walked, reading_by, resolved, resolve_found, resolve_walked, resolve_missed, first_written, loaded_unit}
 use Rattle.twin.specs.Tells.{tells}
+use Rattle.twin.specs.Unit.{Page, Shape, shape, half, zero_entry, space}
 use Rattle.twin.specs.declared.request.Reply.TheVariants as replies
 use Rattle.twin.specs.declared.request.Request.{Request}
-use Rattle.unit.specs.declared.state.Half.{Half}
-use Rattle.unit.specs.declared.state.Mmu.{Mmu}
+use Rattle.twin.specs.declared.unit.Half.{Half}
+use Rattle.twin.specs.declared.unit.Mmu.{Mmu}
 
 -- where nothing was found, an element that passes is found where it is put
 found_set : {X : Type 0} (f : X → Bool) (xs : List X) (j : ℕ) (x : X) (n : ℕ) → lowest_from f n xs ≡ None → f x ≡ true → j < length xs → lowest_from f n (set xs j x) ≡ Some (n + j)

@@ -5,9 +5,8 @@ use Rattle.std.proofs.lemmas.Bool.{eqb-true, eqb-false, leb-true, leb-false, le-
 use Rattle.tlb.specs.Page.{contains}
 use Rattle.tlb.specs.declared.entry.Entry.{Entry}
 use Rattle.twin.specs.History.{LoadIn, refilled, cleared}
-use Rattle.tlb.specs.Shape.{Shape}
-use Rattle.unit.specs.Drops.{spares, ended, dropped, all_ended}
-use Rattle.unit.specs.Event.{Event, Loaded, Dropped, DroppedAll}
+use Rattle.twin.specs.Load.{Event, Loaded, Dropped, DroppedAll, spares, ended, dropped, all_ended}
+use Rattle.twin.specs.Unit.{Shape}
 
 module _ {P : Type 0} (s : Shape P) (z : Entry P) where
   -- the entry in slot i after these events, the slot having held z at first

@@ -5,11 +5,10 @@ use Rattle.tlb.specs.Page.{contains}
 use Rattle.tlb.specs.Search.{lowest_from, lowest}
 use Rattle.tlb.specs.declared.entry.Entry.{Entry}
 use Rattle.twin.proofs.Slots.{holds, Follows}
-use Rattle.tlb.specs.Shape.{Shape}
-use Rattle.unit.specs.Access.{serves}
-use Rattle.unit.specs.Drops.{spares, ended, dropped}
-use Rattle.unit.specs.Event.{Event, Loaded, Dropped, DroppedAll}
+use Rattle.twin.specs.Access.{serves}
 use Rattle.twin.specs.History.{LoadIn, refills, refilled, clears, cleared, admits, Source}
+use Rattle.twin.specs.Load.{Event, Loaded, Dropped, DroppedAll, spares, ended, dropped}
+use Rattle.twin.specs.Unit.{Shape}
 
 pub no_true : {A : Type 0} → false ≡ true → A
 no_true e = absurd (both_ways false refl e)

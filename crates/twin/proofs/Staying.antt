@@ -7,33 +7,30 @@ use Rattle.calls.specs.declared.answer.Answer.TheVariants.{Miss, Granted, Refuse
 use Rattle.calls.specs.declared.answer.Grant.{Grant}
 use Rattle.calls.specs.declared.fault.Fault.{Fault}
 use Rattle.mmu.specs.declared.rights.Access.{Access}
-use Rattle.tlb.specs.Control.{index_of, next_index, reserve, with_index}
+use Rattle.tlb.specs.Control.{index_of, next_index, reserve}
 use Rattle.tlb.specs.Page.{contains}
 use Rattle.tlb.specs.Search.{lowest_from}
 use Rattle.tlb.specs.declared.entry.Entry.{Entry}
 use Rattle.tlb.specs.declared.register.Kind.{Kind}
 use Rattle.tlb.specs.declared.register.Kind.TheVariants.{Instruction, Data}
-use Rattle.tlb.proofs.Fields.{index_put}
-use Rattle.twin.proofs.Counting.{reserve_set, Moves, stands, turns, moves}
+use Rattle.twin.proofs.Counting.{index_set, reserve_set, Moves, stands, turns, moves}
 use Rattle.twin.proofs.Follows.{Kept, kept_life, kept_step, kept_after, index_small}
 use Rattle.twin.proofs.Pages.{next_small, epn_lives, space_small}
 use Rattle.twin.proofs.Slots.{holds}
 use Rattle.twin.proofs.Sources.{no_true}
 use Rattle.mmu.specs.Rights.{access_of, kind_of}
-use Rattle.tlb.specs.Shape.{Shape}
+use Rattle.twin.specs.Access.{translates, serves, slot_found, page_gives, answer_of, found_answer, translated_answer, access_answer, access_left}
 use Rattle.twin.specs.Call.{access_outcome, resolve_outcome}
-use Rattle.unit.specs.Access.{serves, slot_found, page_gives, answer_of, found_answer, translated_answer, access_answer, access_left}
-use Rattle.unit.specs.Drops.{spares, ended, dropped}
-use Rattle.unit.specs.Event.{Event, Loaded, Dropped, DroppedAll, only}
-use Rattle.unit.specs.Load.{load_event}
-use Rattle.unit.specs.Resolve.{Walked, StoppedFirst, StoppedSecond, Passed, walked, resolved, resolve_found, resolve_walked, resolve_missed, first_written}
-use Rattle.unit.specs.State.{translates, Page, shape, half, zero_entry, space}
 use Rattle.twin.specs.History.{refills, refilled, loads_in, disturbs, disturbed, admits}
 use Rattle.twin.specs.Life.{State, begin, step, next, after, history}
+use Rattle.tlb.specs.Control.{with_index}
+use Rattle.twin.specs.Load.{Event, Loaded, Dropped, DroppedAll, spares, ended, dropped, load_event}
 use Rattle.twin.specs.Promises.{asks, settings, sets, some_sets, Few, LoadedBy, NotMissed, LoadedStays}
+use Rattle.twin.specs.Resolve.{Walked, StoppedFirst, StoppedSecond, Passed, walked, resolved, resolve_found, resolve_walked, resolve_missed, first_written, only}
+use Rattle.twin.specs.Unit.{Page, Shape, shape, half, zero_entry, space}
 use Rattle.twin.specs.declared.request.Reply.TheVariants as replies
 use Rattle.twin.specs.declared.request.Request.{Request}
-use Rattle.unit.specs.declared.state.Mmu.{Mmu}
+use Rattle.twin.specs.declared.unit.Mmu.{Mmu}
 
 -- n loads after the one into slot i the index is j
 abbrev Turn : Bool → ℕ → ℕ → ℕ → Type 0
@@ -91,7 +88,7 @@ module _ (k : Kind) (i : ℕ) (small : i < 32) (r : Bool) where
         reserved = ap reserve moved ∙ reserve_set _ c below ∙ t.reserved;
         turn =
             subst (λ l. Turn r i (loads_in l) (index_of (half k (step q s).unit).ctr)) (sym whole)
-            (subst (λ j. Turn r i (loads_in vs + 1) j) (sym (ap index_of moved ∙ index_put _ c below))
+            (subst (λ j. Turn r i (loads_in vs + 1) j) (sym (ap index_of moved ∙ index_set _ c below))
             (subst (λ b. Turn r i (loads_in vs + 1) (next_index b (index_of c))) (sym t.reserved) (turn_more r i (loads_in vs) (index_of c) t.turn)));
         fresh = subst (λ l. refilled i l ≡ false) (sym whole) (or_from _ _ (ne_eqb i (index_of c) (turn_apart r i (loads_in vs) (index_of c) t.turn count small)) t.fresh);
       }
@@ -119,7 +116,7 @@ module _ {P : Type 0} (s : Shape P) (z : Entry P) (i : ℕ) (x : Entry P) (past 
   still (DroppedAll reserved ∷ vs) p q = no_true (sym q)
 
 -- the load of a resolve is live
-pub no_load : {A P : Type 0} (i : ℕ) (x : Entry P) → [] ≡ Loaded i x ∷ [] → A
+no_load : {A P : Type 0} (i : ℕ) (x : Entry P) → [] ≡ Loaded i x ∷ [] → A
 no_load i x e = let w : ◌≡◌ {A = ℕ} 0 1 = ap loads_in e in absurd (omega arith)
 
 same_load : {P : Type 0} (i j : ℕ) (x y : Entry P) → Loaded i x ∷ [] ≡ Loaded j y ∷ [] → (i ≡ j) × (x ≡ y)
@@ -214,7 +211,7 @@ module _ (k : Kind) (m : Meaning) (rs between : List Request) (n e i : ℕ) (a :
       let small : i < 32 = omega (arith, index_small c) in
       let below = next_small (reserve c) (index_of c) in
       let reserved : reserved_now ≡ reserve c = ap reserve moved ∙ reserve_set _ c below in
-      let index : index_of (half k since.unit).ctr ≡ next_index reserved_now i = ap index_of moved ∙ index_put _ c below ∙ (λ t. next_index (sym reserved t) (sym at t)) in
+      let index : index_of (half k since.unit).ctr ≡ next_index reserved_now i = ap index_of moved ∙ index_set _ c below ∙ (λ t. next_index (sym reserved t) (sym at t)) in
       (small, subst (λ j. Turn reserved_now i 0 j) (sym index) (turn_first reserved_now i small))
 
   stays_put : (t : (i < 32) × Turn reserved_now i 0 (index_of (half k since.unit).ctr)) → get_or (half k (after since between).unit).slots i (zero_entry k) ≡ x

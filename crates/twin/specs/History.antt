@@ -2,9 +2,8 @@
 use Rattle.std.specs.Prelude.{◌≡◌, ℕ, ◌+◌, Bool, true, false, not, ◌||◌, ◌⊎◌, List, [], ◌∷◌, ◌++◌, ◌==◌}
 use Rattle.tlb.specs.Page.{contains}
 use Rattle.tlb.specs.declared.entry.Entry.{Entry}
-use Rattle.tlb.specs.Shape.{Shape}
-use Rattle.unit.specs.Drops.{spares}
-use Rattle.unit.specs.Event.{Event, Loaded, Dropped, DroppedAll}
+use Rattle.twin.specs.Load.{Event, Loaded, Dropped, DroppedAll, spares}
+use Rattle.twin.specs.Unit.{Shape}
 
 module _ {P : Type 0} where
   -- a load somewhere in a history: what came later, its slot and entry, what came before

@@ -1,8 +1,11 @@
-pub mod Bytes
+pub mod Access
 pub mod Call
 pub mod Example
 pub mod History
 pub mod Life
+pub mod Load
 pub mod Promises
-pub mod Reload
+pub mod Registers
+pub mod Resolve
 pub mod Tells
+pub mod Unit

@@ -3,18 +3,15 @@ use Rattle.std.specs.Prelude.{List, [], ◌∷◌, ◌++◌}
 use Rattle.board.specs.Memory.{Meaning}
 use Rattle.tlb.specs.declared.register.Kind.{Kind}
 use Rattle.twin.specs.Call.{Outcome, outcome}
-use Rattle.unit.specs.Event.{Event}
-use Rattle.unit.specs.State.{Page, new_unit}
+use Rattle.twin.specs.Load.{Event}
+use Rattle.twin.specs.Unit.{Page, new_unit}
 use Rattle.twin.specs.declared.request.Reply.{Reply}
 use Rattle.twin.specs.declared.request.Request.{Request}
-use Rattle.unit.specs.declared.state.Mmu.{Mmu}
+use Rattle.twin.specs.declared.unit.Mmu.{Mmu}
 
 pub record State : Type 0 where
   pub unit : Mmu
   pub memory : Meaning
-
-abbrev pub state_of : Mmu → Meaning → State
-state_of u m = record { unit = u; memory = m }
 
 -- a new unit over any memory
 abbrev pub begin : Meaning → State

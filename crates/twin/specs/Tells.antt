@@ -9,8 +9,6 @@ use Rattle.tlb.specs.Page.{bytes_in}
 use Rattle.tlb.specs.declared.page.Common.{Common}
 use Rattle.twin.specs.declared.request.Reply.{Reply}
 use Rattle.twin.specs.declared.request.Reply.TheVariants as replies
-use Rattle.unit.specs.declared.look.Seen.{Seen}
-use Rattle.unit.specs.declared.look.Seen.TheVariants as seens
 
 pub record Tells : Type 0 where
   pub number : Option ℕ
@@ -31,10 +29,7 @@ answer_tells Miss = record { number = None; values = [] }
 answer_tells (Granted g) = record { number = None; values = g.address ∷ g.size ∷ bool_byte g.cache_inhibit ∷ bool_byte g.write_through ∷ bool_byte g.guarded ∷ [] }
 answer_tells (Refused f) = record { number = Some (figures_of f).number; values = (figures_of f).level ∷ (figures_of f).place ∷ [] }
 
-abbrev pub seen_tells : Seen → Tells
-seen_tells (seens.Instruction x) = record { number = None; values = bool_byte x.live ∷ x.space ∷ common_values x.page.common [] }
-seen_tells (seens.Data x) = record { number = None; values = bool_byte x.live ∷ x.space ∷ common_values x.page.common (bool_byte x.page.write_through ∷ bool_byte x.page.changed ∷ []) }
-
 abbrev pub tells : Reply → Tells
 tells (replies.Answer a) = answer_tells a
-tells (replies.Saw s) = seen_tells s
+tells (replies.SawInstruction x) = record { number = None; values = bool_byte x.live ∷ x.space ∷ common_values x.page.common [] }
+tells (replies.SawData x) = record { number = None; values = bool_byte x.live ∷ x.space ∷ common_values x.page.common (bool_byte x.page.write_through ∷ bool_byte x.page.changed ∷ []) }

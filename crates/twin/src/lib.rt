@@ -1,6 +1,6 @@
 // One translation unit over one memory: what every call means, and the promises over whole lives of calls.
 #![tactic(auto)]
 
-pub mod life;
+pub mod promises;
 pub mod request;
-pub mod twin;
+pub mod unit;

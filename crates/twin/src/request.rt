@@ -1,7 +1,8 @@
 // What can be asked of a twin, looks included, and what it replies.
 use calls::answer::Answer;
 use calls::call::Call;
-use unit::look::Seen;
+use tlb::entry::Entry;
+use tlb::page::{DataPage, InstructionPage};
 
 #[derive(Clone, Copy)]
 pub enum Request {
@@ -10,9 +11,10 @@ pub enum Request {
     Look { kind: u32, slot: u32 },
 }
 
-#[derive(Clone, Copy)]
+#[derive(Drop)]
 pub enum Reply {
     Answer(Answer),
     // the entry that a look saw
-    Saw(Seen),
+    SawInstruction(Entry<InstructionPage>),
+    SawData(Entry<DataPage>),
 }

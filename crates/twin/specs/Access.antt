@@ -1,24 +1,30 @@
 -- Access: what it answers, and what it leaves. Assumes nothing.
-use Rattle.std.specs.Prelude.{ℕ, Bool, true, false, Some, None, Ok, Err, Option, Result, slice_index_or}
+use Rattle.std.specs.Prelude.{ℕ, Bool, true, false, cond, List, Some, None, Ok, Err, Option, Result, ◌==◌, slice_index_or}
 use Rattle.calls.specs.declared.answer.Answer.{Answer}
 use Rattle.calls.specs.declared.answer.Answer.TheVariants.{Miss, Granted, Refused}
 use Rattle.calls.specs.declared.answer.Grant.{Grant}
 use Rattle.calls.specs.declared.fault.Fault.{Fault}
-use Rattle.calls.specs.declared.fault.Fault.TheVariants.{NoKind}
 use Rattle.mmu.specs.Rights.{kind_of}
 use Rattle.mmu.specs.Verdict.{gives, through_for}
 use Rattle.mmu.specs.declared.rights.Access.{Access}
+use Rattle.mmu.specs.declared.rights.Access.TheVariants.{Fetch, Load, Store}
 use Rattle.mmu.specs.declared.rights.Protection.{Protection}
 use Rattle.tlb.specs.Control.{group_mode, default_inhibit, default_through}
-use Rattle.tlb.specs.Entry.{entry_of, matched}
+use Rattle.tlb.specs.Entry.{matched}
 use Rattle.tlb.specs.Search.{lowest}
-use Rattle.tlb.specs.Shape.{Shape}
 use Rattle.tlb.specs.declared.entry.Entry.{Entry}
 use Rattle.tlb.specs.declared.register.Kind.{Kind}
-use Rattle.unit.specs.Load.{missed_unit}
-use Rattle.unit.specs.State.{shape, half, space, zero_entry, translates}
-use Rattle.unit.specs.declared.state.Half.{Half}
-use Rattle.unit.specs.declared.state.Mmu.{Mmu}
+use Rattle.tlb.specs.declared.register.Kind.TheVariants.{Instruction, Data}
+use Rattle.twin.specs.Load.{missed}
+use Rattle.twin.specs.Unit.{Page, Shape, shape, half, put, space, zero_entry}
+use Rattle.twin.specs.declared.unit.Half.{Half}
+use Rattle.twin.specs.declared.unit.Mode.{Mode}
+use Rattle.twin.specs.declared.unit.Mmu.{Mmu}
+
+-- the kind's translation is on
+abbrev pub translates : Kind → Mode → Bool
+translates Instruction m = m.instruction
+translates Data m = m.«data»
 
 abbrev pub protection : {P : Type 0} → Half P → Protection
 protection h = record { group_mode = group_mode h.ctr; ap = h.ap }
@@ -48,11 +54,6 @@ abbrev pub found_answer : {P : Type 0} → Shape P → Half P → Entry P → Op
 found_answer s h d None problem a e = Miss
 found_answer s h d (Some i) problem a e = answer_of (page_gives s (slice_index_or h.slots i d).page (protection h) problem a e)
 
--- the answer of a half, by whether its translation is on
-abbrev pub half_answer : {P : Type 0} → Shape P → Half P → Bool → Bool → ℕ → Access → ℕ → Answer
-half_answer s h false problem current a e = Granted (plain_grant h a e)
-half_answer s h true problem current a e = found_answer s h (entry_of s.made 0 0 0) (slot_found s h e current) problem a e
-
 -- the answer with translation on
 abbrev pub translated_answer : (k : Kind) → Mmu → Access → ℕ → Answer
 translated_answer k u a e = found_answer (shape k) (half k u) (zero_entry k) (slot_found (shape k) (half k u) e (space u)) u.mode.problem a e
@@ -62,20 +63,14 @@ abbrev pub access_answer : Bool → (k : Kind) → Mmu → Access → ℕ → An
 access_answer false k u a e = Granted (plain_grant (half k u) a e)
 access_answer true k u a e = translated_answer k u a e
 
+-- a miss sets the kind's EPN
+abbrev pub missed_unit : Kind → ℕ → Mmu → Mmu
+missed_unit k e u = put k (missed e (space u) (half k u)) u
+
 abbrev pub found_left : (k : Kind) → Option ℕ → ℕ → Mmu → Mmu
 found_left k None e u = missed_unit k e u
 found_left k (Some i) e u = u
 
--- what an access leaves, its translation on or off
 abbrev pub access_left : Bool → (k : Kind) → Mmu → ℕ → Mmu
 access_left false k u e = u
 access_left true k u e = found_left k (slot_found (shape k) (half k u) e (space u)) e u
-
--- an access by its number, which is tested first
-abbrev pub access_reply : Option Access → ℕ → ℕ → Mmu → Answer
-access_reply None n e u = Refused (NoKind n)
-access_reply (Some a) n e u = access_answer (translates (kind_of a) u.mode) (kind_of a) u a e
-
-abbrev pub access_unit : Option Access → ℕ → Mmu → Mmu
-access_unit None e u = u
-access_unit (Some a) e u = access_left (translates (kind_of a) u.mode) (kind_of a) u e

@@ -2,24 +2,34 @@
 use Rattle.std.specs.Prelude.{ℕ, Bool, true, false, List, replicate}
 use Rattle.tlb.specs.Bits.{field}
 use Rattle.tlb.specs.Entry.{entry_of}
-use Rattle.tlb.specs.Shape.{Shape, instruction_shape, data_shape}
+use Rattle.tlb.specs.Page.{instruction_page, data_page}
 use Rattle.tlb.specs.declared.entry.Entry.{Entry}
+use Rattle.tlb.specs.declared.page.Common.{Common}
 use Rattle.tlb.specs.declared.page.DataPage.{DataPage}
 use Rattle.tlb.specs.declared.page.InstructionPage.{InstructionPage}
 use Rattle.tlb.specs.declared.register.Kind.{Kind}
 use Rattle.tlb.specs.declared.register.Kind.TheVariants.{Instruction, Data}
-use Rattle.unit.specs.declared.state.Half.{Half}
-use Rattle.unit.specs.declared.state.Mode.{Mode}
-use Rattle.unit.specs.declared.state.Mmu.{Mmu}
+use Rattle.twin.specs.declared.unit.Half.{Half}
+use Rattle.twin.specs.declared.unit.Mode.{Mode}
+use Rattle.twin.specs.declared.unit.Mmu.{Mmu}
 
 -- the type of a kind's pages
 abbrev pub Page : Kind → Type 0
 Page Instruction = InstructionPage
 Page Data = DataPage
 
+-- what the rules ask of a page type: the page that EPN, TWC and RPN make; what both kinds of page have; write-through
+-- and changed
+pub record Shape (P : Type 0) : Type 0 where
+  pub made : ℕ → ℕ → ℕ → P
+  pub body : P → Common
+  pub through : P → Bool
+  pub changed : P → Bool
+
+-- a page for fetches is never stored to, so it counts as changed
 abbrev pub shape : (k : Kind) → Shape (Page k)
-shape Instruction = instruction_shape
-shape Data = data_shape
+shape Instruction = record { made = instruction_page; body = λ p. p.common; through = λ _. false; changed = λ _. true }
+shape Data = record { made = data_page; body = λ p. p.common; through = λ p. p.write_through; changed = λ p. p.changed }
 
 -- the registers and slots of a kind
 abbrev pub half : (k : Kind) → Mmu → Half (Page k)
@@ -34,13 +44,13 @@ put Data h u = record { instruction = u.instruction; «data» = h; casid = u.cas
 abbrev pub zero_entry : (k : Kind) → Entry (Page k)
 zero_entry k = entry_of (shape k).made 0 0 0
 
-abbrev pub new_half : {P : Type 0} → Shape P → ℕ → Half P
-new_half s ctr = record { ctr = ctr; ap = 0; epn = 0; twc = 0; rpn = 0; slots = replicate 32 (entry_of s.made 0 0 0) }
+abbrev pub new_half : (k : Kind) → ℕ → Half (Page k)
+new_half k ctr = record { ctr = ctr; ap = 0; epn = 0; twc = 0; rpn = 0; slots = replicate 32 (zero_entry k) }
 
 abbrev pub new_unit : Mmu
 new_unit = record {
-  instruction = new_half (shape Instruction) 0;
-  «data» = new_half (shape Data) 0x04000000;
+  instruction = new_half Instruction 0;
+  «data» = new_half Data 0x04000000;
   casid = 0;
   twb = 0;
   tw = 0;
@@ -51,8 +61,3 @@ new_unit = record {
 -- the current space
 abbrev pub space : Mmu → ℕ
 space u = field 28 31 u.casid
-
--- the kind's translation is on
-abbrev pub translates : Kind → Mode → Bool
-translates Instruction m = m.instruction
-translates Data m = m.«data»

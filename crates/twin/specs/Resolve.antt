@@ -1,22 +1,19 @@
 -- Resolve: the walk by where it stops, and what a resolve keeps. Assumes nothing.
-use Rattle.std.specs.Prelude.{ℕ, Bool, true, false, List, Some, None, Ok, Err, Option, Result, bit_and}
+use Rattle.std.specs.Prelude.{ℕ, ◌+◌, min, Bool, true, false, List, [], ◌∷◌, Some, None, Ok, Err, Option, Result, bit_and}
 use Rattle.board.specs.Memory.{Meaning}
 use Rattle.calls.specs.declared.answer.Answer.{Answer}
 use Rattle.calls.specs.declared.answer.Answer.TheVariants.{Refused}
 use Rattle.calls.specs.declared.fault.Fault.{Fault}
-use Rattle.calls.specs.declared.fault.Fault.TheVariants.{NoKind}
-use Rattle.mmu.specs.Rights.{kind_of}
 use Rattle.mmu.specs.Walk.{first_word, second_word}
 use Rattle.mmu.specs.declared.rights.Access.{Access}
 use Rattle.tlb.specs.Register.{kept_bits}
 use Rattle.tlb.specs.declared.register.Kind.{Kind}
 use Rattle.tlb.specs.declared.register.Kind.TheVariants.{Instruction, Data}
 use Rattle.tlb.specs.declared.register.Register.TheVariants.{Twc}
-use Rattle.unit.specs.Access.{access_answer, translated_answer, slot_found}
-use Rattle.unit.specs.Event.{Event, only, none}
-use Rattle.unit.specs.Load.{with_twc, load_event, missed_unit, loaded_unit}
-use Rattle.unit.specs.State.{Page, shape, half, put, space, translates}
-use Rattle.unit.specs.declared.state.Mmu.{Mmu}
+use Rattle.twin.specs.Access.{access_answer, translated_answer, slot_found, missed_unit}
+use Rattle.twin.specs.Load.{Event, with_twc, loaded, load_event}
+use Rattle.twin.specs.Unit.{Page, shape, half, put, space}
+use Rattle.twin.specs.declared.unit.Mmu.{Mmu}
 
 -- a walk stops at the first word, or at the second behind a first that passed, or passes both
 pub data Walked : Type 0 where
@@ -41,6 +38,24 @@ reading_by makes e (StoppedFirst f) = Err f
 reading_by makes e (StoppedSecond first f) = Err f
 reading_by makes e (Passed first second) = Ok (makes e first second)
 
+-- the count of loads stops at the largest word
+abbrev pub counted : Mmu → Mmu
+counted u = record { instruction = u.instruction; «data» = u.«data»; casid = u.casid; twb = u.twb; tw = u.tw; mode = u.mode; loads = min (u.loads + 1) 4294967295 }
+
+-- a load of w, by hand or by a resolve
+abbrev pub loaded_unit : Kind → ℕ → Mmu → Mmu
+loaded_unit k w u = counted (put k (loaded (shape k) w (half k u)) u)
+
+-- the event of one kind alone
+abbrev pub only : (k : Kind) → Event (Page k) → (j : Kind) → List (Event (Page j))
+only Instruction v Instruction = v ∷ []
+only Instruction v Data = []
+only Data v Instruction = []
+only Data v Data = v ∷ []
+
+abbrev pub none : (j : Kind) → List (Event (Page j))
+none j = []
+
 -- a miss in a resolve sets MD_EPN too
 abbrev pub resolve_missed : Kind → ℕ → Mmu → Mmu
 resolve_missed k e u = missed_unit Data e (missed_unit k e u)
@@ -52,17 +67,6 @@ first_data w u = put Data (with_twc (bit_and w (kept_bits (Twc Data))) (half Dat
 abbrev pub first_written : Kind → ℕ → Mmu → Mmu
 first_written Instruction w u = put Instruction (with_twc (bit_and w (kept_bits (Twc Instruction))) (half Instruction u)) (first_data w u)
 first_written Data w u = first_data w u
-
--- what a walk leaves: the first word is kept if it passed, and both load
-abbrev pub walk_result : Walked → Result (Unit {0}) Fault
-walk_result (StoppedFirst f) = Err f
-walk_result (StoppedSecond first f) = Err f
-walk_result (Passed first second) = Ok tt
-
-abbrev pub walk_unit : Kind → Walked → Mmu → Mmu
-walk_unit k (StoppedFirst f) u = u
-walk_unit k (StoppedSecond first f) u = first_written k first u
-walk_unit k (Passed first second) u = loaded_unit k second (first_written k first u)
 
 -- what a resolve comes to: its answer, the unit, and the events
 pub record ResultOf : Type 0 where
@@ -87,8 +91,3 @@ resolve_found k None m a e u = resolve_walked k (walked m u.twb e) a e (resolve_
 abbrev pub resolved : Bool → (k : Kind) → Meaning → Access → ℕ → Mmu → ResultOf
 resolved false k m a e u = record { answer = access_answer false k u a e; unit = u; events = none }
 resolved true k m a e u = resolve_found k (slot_found (shape k) (half k u) e (space u)) m a e u
-
--- a resolve by its number, which is tested first
-abbrev pub resolve_of : Option Access → ℕ → ℕ → Meaning → Mmu → ResultOf
-resolve_of None n e m u = record { answer = Refused (NoKind n); unit = u; events = none }
-resolve_of (Some a) n e m u = resolved (translates (kind_of a) u.mode) (kind_of a) m a e u

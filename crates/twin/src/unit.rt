@@ -1,0 +1,76 @@
+// The unit's state.
+ghost use Rattle.std.specs.Prelude.{◌≡◌};
+ghost use Rattle.twin.specs.Unit.{new_unit};
+
+use tlb::entry::Entry;
+use tlb::page::{DataPage, InstructionPage};
+
+// The registers and the slots of one kind.
+#[derive(Drop)]
+pub struct Half<P> {
+    pub ctr: u32,
+    pub ap: u32,
+    pub epn: u32,
+    pub twc: u32,
+    pub rpn: u32,
+    pub slots: [Entry<P>; 32],
+}
+
+// The privilege, and which translations are on.
+#[derive(Clone, Copy)]
+pub struct Mode {
+    pub problem: bool,
+    pub instruction: bool,
+    pub data: bool,
+}
+
+#[derive(Drop)]
+pub struct Mmu {
+    pub instruction: Half<InstructionPage>,
+    pub data: Half<DataPage>,
+    // the current space, the table base, the scratch register
+    pub casid: u32,
+    pub twb: u32,
+    pub tw: u32,
+    pub mode: Mode,
+    // how many loads there were
+    pub loads: u32,
+}
+
+impl Mmu {
+    // A new unit: every register 0 but MD_CTR, privileged, translations off, every slot as if filled from zeros.
+    pub fn new() -> Mmu
+        ensures { result ≡ new_unit }
+    {
+        let instruction = Half {
+            ctr: 0,
+            ap: 0,
+            epn: 0,
+            twc: 0,
+            rpn: 0,
+            slots: [Entry::zero(); 32],
+        };
+        let data = Half {
+            ctr: 0x0400_0000,
+            ap: 0,
+            epn: 0,
+            twc: 0,
+            rpn: 0,
+            slots: [Entry::zero(); 32],
+        };
+        let mode = Mode {
+            problem: false,
+            instruction: false,
+            data: false,
+        };
+        Mmu {
+            instruction,
+            data,
+            casid: 0,
+            twb: 0,
+            tw: 0,
+            mode,
+            loads: 0,
+        }
+    }
+}
