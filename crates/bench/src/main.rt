@@ -4,6 +4,7 @@
 mod account;
 
 use account::account_of;
+use board::ram::Ram;
 use script::reader::LONGEST;
 use std::io;
 use std::io::Read;
@@ -19,6 +20,7 @@ fn main(rt: HostRuntime) -> io::Result<()> {
         .take(LONGEST as u64 + 1)
         .read_to_end(&mut script)?;
     let mut bytes = vec![in heap; 0u8; RAM]?;
-    let text = account_of(heap, bytes.as_mut_slice(), script.as_slice())?;
+    let mut memory = Ram::new(bytes.as_mut_slice());
+    let text = account_of(heap, &mut memory, script.as_slice())?;
     rt.print(text)
 }

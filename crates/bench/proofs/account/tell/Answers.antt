@@ -1,9 +1,18 @@
-use Rattle.bench.proofs.Accounts.{told_more, told_all}
+use Rattle.std.proofs.Common.{◌≡◌, [], ◌∷◌, ◌++◌, string_bytes, refl, ap, ◌∙◌, append_assoc}
+use lib.Utf8.{encode}
+use Rattle.std.proofs.lemmas.Slice.{pushed}
+use Rattle.text.specs.Answers.{text_of}
 use Rattle.bench.proofs.account.tell.Goals as goal
 
-pub loop-line-preserved : goal.loop-line-preserved
-loop-line-preserved c =
-    told_more c.args.lines.now c.loop-line.line-index _ _ _ _ _ _ _ c.loop-line-test.true c.answer_to-answer.ensures.answer c.answer_to-answer.ensures.left c.in_ok-add_line.ensures c.loop-line.invariant
-
 pub returns : goal.returns
-returns c = told_all c.args.lines.now c.loop-line.line-index _ _ _ c.loop-line-test.false c.loop-line.invariant
+unfolding encode
+returns g c =
+    let before = string_bytes c.args.out.now in
+    let body : c.as_str.result.now ≡ text_of _ = c.as_str.ensures.value ∙ c.in_ok-text.ensures ∙ ap text_of c.answer-answer.ensures.answer in
+    let one = pushed c.as_str.result.now refl c.in_ok-push_str.was c.push_str.ensures.bytes in
+    let two = pushed (encode 10) one c.in_ok-push.was c.push.ensures.bytes in
+    record {
+      text = two ∙ append_assoc before c.as_str.result.now (10 ∷ []) ∙ ap (λ l. before ++ (l ++ 10 ∷ [])) body;
+      left = c.answer-answer.ensures.left;
+      same = c.answer-answer.ensures.same;
+    }
