@@ -1,9 +1,15 @@
+pub mod Answering
 pub mod Counting
+pub mod Epns
 pub mod Examples
 pub mod Follows
 pub mod Grants
+pub mod Mapped
+pub mod Named
 pub mod Pages
+pub mod Resolving
 pub mod Settling
 pub mod Slots
 pub mod Sources
 pub mod Staying
+pub mod Writes

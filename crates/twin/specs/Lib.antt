@@ -4,6 +4,7 @@ pub mod Example
 pub mod History
 pub mod Life
 pub mod Load
+pub mod Look
 pub mod Promises
 pub mod Registers
 pub mod Resolve

@@ -1,7 +1,9 @@
 -- Register reads and writes. Assumes nothing.
-use Rattle.std.specs.Prelude.{ℕ, Bool, cond, not, ◌||◌, List, Some, None, Option, bit_and}
+use Rattle.std.specs.Prelude.{ℕ, Bool, cond, not, ◌||◌, List, Some, None, Ok, Err, Option, Result, bit_and}
+use Rattle.calls.specs.declared.fault.Fault.{Fault}
+use Rattle.calls.specs.declared.fault.Fault.TheVariants.{Register as Misused}
 use Rattle.calls.specs.declared.fault.Misuse.{Misuse}
-use Rattle.calls.specs.declared.fault.Misuse.TheVariants.{Mode, Size, Marks}
+use Rattle.calls.specs.declared.fault.Misuse.TheVariants.{NoRegister, Mode, Size, Marks}
 use Rattle.mmu.specs.Walk.{first_address, second_address, sized, marked}
 use Rattle.tlb.specs.Bits.{flag}
 use Rattle.tlb.specs.Register.{kept_bits}
@@ -74,3 +76,37 @@ write_events (Twc k) w u = none
 write_events Casid w u = none
 write_events Twb w u = none
 write_events Tw w u = none
+
+-- a register call by its number, which is tested first
+abbrev pub refusal : Option Register → ℕ → Option Misuse
+refusal None w = Some NoRegister
+refusal (Some r) w = misused r w
+
+abbrev pub refused_by : Option Misuse → ℕ → Result (Unit {0}) Fault
+refused_by None n = Ok tt
+refused_by (Some why) n = Err (Misused why n)
+
+abbrev pub write_result : Option Register → ℕ → ℕ → Result (Unit {0}) Fault
+write_result o n w = refused_by (refusal o w) n
+
+-- the register, if it takes the word
+abbrev pub taken_by : Option Misuse → Register → ℕ → Result Register Fault
+taken_by None r n = Ok r
+taken_by (Some why) r n = Err (Misused why n)
+
+abbrev pub checked : Option Register → ℕ → ℕ → Result Register Fault
+checked None n w = Err (Misused NoRegister n)
+checked (Some r) n w = taken_by (misused r w) r n
+
+-- a refused write leaves the unit
+abbrev pub unless : {A : Type 0} → Option Misuse → A → A → A
+unless (Some why) kept made = kept
+unless None kept made = made
+
+abbrev pub write_unit : Option Register → ℕ → Mmu → Mmu
+write_unit None w u = u
+write_unit (Some r) w u = unless (misused r w) u (register_written r w u)
+
+abbrev pub read_result : Option Register → ℕ → Mmu → Result ℕ Fault
+read_result None n u = Err (Misused NoRegister n)
+read_result (Some r) n u = Ok (register_read r u)

@@ -4,13 +4,15 @@ use Rattle.board.specs.Memory.{Meaning}
 use Rattle.calls.specs.declared.answer.Answer.{Answer}
 use Rattle.calls.specs.declared.answer.Answer.TheVariants.{Refused}
 use Rattle.calls.specs.declared.fault.Fault.{Fault}
+use Rattle.calls.specs.declared.fault.Fault.TheVariants.{NoKind}
+use Rattle.mmu.specs.Rights.{kind_of}
 use Rattle.mmu.specs.Walk.{first_word, second_word}
 use Rattle.mmu.specs.declared.rights.Access.{Access}
 use Rattle.tlb.specs.Register.{kept_bits}
 use Rattle.tlb.specs.declared.register.Kind.{Kind}
 use Rattle.tlb.specs.declared.register.Kind.TheVariants.{Instruction, Data}
 use Rattle.tlb.specs.declared.register.Register.TheVariants.{Twc}
-use Rattle.twin.specs.Access.{access_answer, translated_answer, slot_found, missed_unit}
+use Rattle.twin.specs.Access.{translates, access_answer, translated_answer, slot_found, missed_unit}
 use Rattle.twin.specs.Load.{Event, with_twc, loaded, load_event}
 use Rattle.twin.specs.Unit.{Page, shape, half, put, space}
 use Rattle.twin.specs.declared.unit.Mmu.{Mmu}
@@ -91,3 +93,19 @@ resolve_found k None m a e u = resolve_walked k (walked m u.twb e) a e (resolve_
 abbrev pub resolved : Bool → (k : Kind) → Meaning → Access → ℕ → Mmu → ResultOf
 resolved false k m a e u = record { answer = access_answer false k u a e; unit = u; events = none }
 resolved true k m a e u = resolve_found k (slot_found (shape k) (half k u) e (space u)) m a e u
+
+-- what a walk leaves: the first word is kept if it passed, and both load
+abbrev pub walk_result : Walked → Result (Unit {0}) Fault
+walk_result (StoppedFirst f) = Err f
+walk_result (StoppedSecond first f) = Err f
+walk_result (Passed first second) = Ok tt
+
+abbrev pub walk_unit : Kind → Walked → Mmu → Mmu
+walk_unit k (StoppedFirst f) u = u
+walk_unit k (StoppedSecond first f) u = first_written k first u
+walk_unit k (Passed first second) u = loaded_unit k second (first_written k first u)
+
+-- a resolve by its number, which is tested first
+abbrev pub resolve_of : Option Access → ℕ → ℕ → Meaning → Mmu → ResultOf
+resolve_of None n e m u = record { answer = Refused (NoKind n); unit = u; events = none }
+resolve_of (Some a) n e m u = resolved (translates (kind_of a) u.mode) (kind_of a) m a e u

@@ -61,3 +61,7 @@ new_unit = record {
 -- the current space
 abbrev pub space : Mmu → ℕ
 space u = field 28 31 u.casid
+
+-- the shape of a page type, by what its trait says
+abbrev pub shape_by : {P : Type 0} → (ℕ → ℕ → ℕ → P) → (P → Common) → (P → Bool) → (P → Bool) → Shape P
+shape_by makes body through marked = record { made = makes; body = body; through = through; changed = marked }

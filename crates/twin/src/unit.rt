@@ -1,9 +1,11 @@
 // The unit's state.
-ghost use Rattle.std.specs.Prelude.{◌≡◌};
-ghost use Rattle.twin.specs.Unit.{new_unit};
+ghost use Rattle.std.specs.Prelude.{◌≡◌, ◌<◌, length};
+ghost use Rattle.twin.specs.Access.{translates};
+ghost use Rattle.twin.specs.Unit.{new_unit, space};
 
 use tlb::entry::Entry;
 use tlb::page::{DataPage, InstructionPage};
+use tlb::register::{Kind, Register};
 
 // The registers and the slots of one kind.
 #[derive(Drop)]
@@ -35,6 +37,34 @@ pub struct Mmu {
     pub mode: Mode,
     // how many loads there were
     pub loads: u32,
+}
+
+fn count<T>(slots: &[T]) -> usize
+    ensures { result ≡ length slots.now }
+{
+    slots.len()
+}
+
+impl<P> Half<P> {
+    // How many slots there are.
+    pub(crate) fn len(&self) -> usize
+        ensures value { result ≡ 32 }
+        ensures all { length self.now.slots ≡ 32 }
+    {
+        count(&self.slots)
+    }
+}
+
+impl Mode {
+    // Whether the kind's translation is on.
+    pub fn translates(self, kind: Kind) -> bool
+        ensures { result ≡ translates kind self }
+    {
+        match kind {
+            Kind::Instruction => self.instruction,
+            Kind::Data => self.data,
+        }
+    }
 }
 
 impl Mmu {
@@ -72,5 +102,13 @@ impl Mmu {
             mode,
             loads: 0,
         }
+    }
+
+    // The current space.
+    pub fn space(&self) -> u32
+        ensures value { result ≡ space self.now }
+        ensures small { result < 16 }
+    {
+        Register::Casid.keep(self.casid)
     }
 }

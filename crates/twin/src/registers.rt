@@ -1,0 +1,105 @@
+// Register reads and writes.
+ghost use Rattle.std.specs.Prelude.{◌≡◌};
+ghost use Rattle.tlb.specs.Register.{register_at};
+ghost use Rattle.twin.specs.Call.{with_mode};
+ghost use Rattle.twin.specs.Registers.{register_read, kept_written, checked, write_result, write_unit, read_result};
+
+use crate::unit::{Mmu, Mode};
+use calls::fault::{Fault, Misuse};
+use mmu::walk::{first_place, second_place};
+use tlb::control::Control;
+use tlb::descriptor::{mark_bits, size_bits};
+use tlb::register::{Kind, Register};
+
+// The register of that number, if it takes the word.
+fn check(number: u32, word: u32) -> Result<Register, Fault>
+    ensures { result ≡ checked (register_at number) number word }
+{
+    let control = Control(word);
+    let misuse = match Register::numbered(number) {
+        None => Misuse::NoRegister,
+        Some(Register::Ctr(_)) if control.protection_mode() || control.state_compare() =>
+            Misuse::Mode,
+        Some(Register::Ctr(Kind::Data)) if !control.walk_assist() => Misuse::Mode,
+        Some(Register::Twc(_)) if size_bits(word) == 2 => Misuse::Size,
+        Some(Register::Rpn(_)) if mark_bits(word) != 15 => Misuse::Marks,
+        Some(register) => return Ok(register),
+    };
+    Err(Fault::Register {
+        misuse,
+        register: number,
+    })
+}
+
+impl Mmu {
+    // What a register reads as. M_TWB and MD_TWC are composed for the tablewalk.
+    fn get(&self, register: Register) -> u32
+        ensures { result ≡ register_read register self.now }
+    {
+        match register {
+            Register::Ctr(Kind::Instruction) => self.instruction.ctr,
+            Register::Ctr(Kind::Data) => self.data.ctr,
+            Register::Ap(Kind::Instruction) => self.instruction.ap,
+            Register::Ap(Kind::Data) => self.data.ap,
+            Register::Epn(Kind::Instruction) => self.instruction.epn,
+            Register::Epn(Kind::Data) => self.data.epn,
+            Register::Twc(Kind::Instruction) => self.instruction.twc,
+            Register::Twc(Kind::Data) => second_place(self.data.twc, self.data.epn),
+            Register::Rpn(Kind::Instruction) => self.instruction.rpn,
+            Register::Rpn(Kind::Data) => self.data.rpn,
+            Register::Casid => self.casid,
+            Register::Twb => first_place(self.twb, self.data.epn),
+            Register::Tw => self.tw,
+        }
+    }
+
+    // Writes a word that is cut to the kept bits. That of an RPN loads.
+    fn set(&mut self, register: Register, word: u32)
+        ensures { self.new ≡ kept_written register word self.old }
+    {
+        match register {
+            Register::Ctr(Kind::Instruction) => self.instruction.ctr = word,
+            Register::Ctr(Kind::Data) => self.data.ctr = word,
+            Register::Ap(Kind::Instruction) => self.instruction.ap = word,
+            Register::Ap(Kind::Data) => self.data.ap = word,
+            Register::Epn(Kind::Instruction) => self.instruction.epn = word,
+            Register::Epn(Kind::Data) => self.data.epn = word,
+            Register::Twc(Kind::Instruction) => self.instruction.twc = word,
+            Register::Twc(Kind::Data) => self.data.twc = word,
+            Register::Rpn(kind) => self.load(kind, word),
+            Register::Casid => self.casid = word,
+            Register::Twb => self.twb = word,
+            Register::Tw => self.tw = word,
+        }
+    }
+
+    // Reads the register of that number.
+    pub fn read(&self, number: u32) -> Result<u32, Fault>
+        ensures { result ≡ read_result (register_at number) number self.now }
+    {
+        match Register::numbered(number) {
+            Some(register) => Ok(self.get(register)),
+            None => Err(Fault::Register {
+                misuse: Misuse::NoRegister,
+                register: number,
+            }),
+        }
+    }
+
+    // Writes the register of that number. A refused write changes nothing; that of an RPN loads.
+    pub fn write(&mut self, number: u32, word: u32) -> Result<(), Fault>
+        ensures answer { result ≡ write_result (register_at number) number word }
+        ensures left { self.new ≡ write_unit (register_at number) word self.old }
+    {
+        let register = check(number, word)?;
+        self.set(register, register.keep(word));
+        Ok(())
+    }
+
+    // Sets the privilege, and turns the translations on or off.
+    pub fn set_mode(&mut self, mode: Mode)
+        ensures { self.new ≡ with_mode mode.problem mode.instruction mode.«data» self.old }
+    {
+        self.mode = mode;
+    }
+}

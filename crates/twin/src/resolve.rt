@@ -1,0 +1,60 @@
+// Resolves: accesses that walk the tables where they would miss.
+ghost use Rattle.std.specs.Prelude.{◌≡◌};
+ghost use Rattle.calls.specs.Answer.{grant_answer};
+ghost use Rattle.mmu.specs.Rights.{access_of};
+ghost use Rattle.twin.specs.Resolve.{walked, first_written, walk_result, walk_unit, resolve_of};
+
+use crate::unit::Mmu;
+use board::memory::Memory;
+use calls::answer::Grant;
+use calls::fault::Fault;
+use mmu::rights::Access;
+use mmu::walk::{walk_first, walk_second};
+use tlb::register::{Kind, Register};
+
+impl Mmu {
+    // A first word that passed goes to MD_TWC, for a fetch to MI_TWC too.
+    fn keep_first(&mut self, kind: Kind, word: u32)
+        ensures { self.new ≡ first_written kind word self.old }
+    {
+        self.data.twc = Register::Twc(Kind::Data).keep(word);
+        match kind {
+            Kind::Instruction => self.instruction.twc = Register::Twc(kind).keep(word),
+            Kind::Data => (),
+        }
+    }
+
+    // Walks the tables for an address, and loads what they give. Where the walk stops, what it has kept stays.
+    fn walk<M: Memory>(&mut self, memory: &M, kind: Kind, address: u32) -> Result<(), Fault>
+        ensures answer { result ≡ walk_result (walked (M.Memory.meaning memory.now) self.old.twb address) }
+        ensures left { self.new ≡ walk_unit kind (walked (M.Memory.meaning memory.now) self.old.twb address) self.old }
+    {
+        let first = walk_first(memory, self.twb, address)?;
+        self.keep_first(kind, first);
+        let second = walk_second(memory, first, address)?;
+        self.load(kind, second);
+        Ok(())
+    }
+
+    // An access that walks and loads where it would miss. A refused resolve keeps the registers and the load it had made.
+    pub fn resolve<M: Memory>(
+        &mut self,
+        memory: &M,
+        kind: u32,
+        address: u32,
+    ) -> Result<Option<Grant>, Fault>
+        ensures answer { grant_answer result ≡ (resolve_of (access_of kind) kind address (M.Memory.meaning memory.now) self.old).answer }
+        ensures left { self.new ≡ (resolve_of (access_of kind) kind address (M.Memory.meaning memory.now) self.old).unit }
+    {
+        let access = Access::numbered(kind).ok_or(Fault::NoKind { kind })?;
+        let found = self.answer(access, address)?;
+        if found.is_some() {
+            return Ok(found);
+        }
+        let side = access.kind();
+        self.miss(side, address);
+        self.miss(Kind::Data, address);
+        self.walk(memory, side, address)?;
+        self.answer(access, address)
+    }
+}
