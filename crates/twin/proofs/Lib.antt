@@ -1,4 +1,5 @@
 pub mod Answering
+pub mod Asking
 pub mod Counting
 pub mod Epns
 pub mod Examples
@@ -7,6 +8,8 @@ pub mod Grants
 pub mod Mapped
 pub mod Named
 pub mod Pages
+pub mod Ram
+pub mod Reloading
 pub mod Resolving
 pub mod Settling
 pub mod Slots

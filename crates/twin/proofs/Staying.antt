@@ -116,7 +116,7 @@ module _ {P : Type 0} (s : Shape P) (z : Entry P) (i : ℕ) (x : Entry P) (past 
   still (DroppedAll reserved ∷ vs) p q = no_true (sym q)
 
 -- the load of a resolve is live
-no_load : {A P : Type 0} (i : ℕ) (x : Entry P) → [] ≡ Loaded i x ∷ [] → A
+pub no_load : {A P : Type 0} (i : ℕ) (x : Entry P) → [] ≡ Loaded i x ∷ [] → A
 no_load i x e = let w : ◌≡◌ {A = ℕ} 0 1 = ap loads_in e in absurd (omega arith)
 
 same_load : {P : Type 0} (i j : ℕ) (x y : Entry P) → Loaded i x ∷ [] ≡ Loaded j y ∷ [] → (i ≡ j) × (x ≡ y)

@@ -1,4 +1,5 @@
 pub mod Access
+pub mod Bytes
 pub mod Call
 pub mod Example
 pub mod History
@@ -7,6 +8,7 @@ pub mod Load
 pub mod Look
 pub mod Promises
 pub mod Registers
+pub mod Reload
 pub mod Resolve
 pub mod Tells
 pub mod Unit

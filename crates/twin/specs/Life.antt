@@ -13,6 +13,9 @@ pub record State : Type 0 where
   pub unit : Mmu
   pub memory : Meaning
 
+abbrev pub state_of : Mmu → Meaning → State
+state_of u m = record { unit = u; memory = m }
+
 -- a new unit over any memory
 abbrev pub begin : Meaning → State
 begin m = record { unit = new_unit; memory = m }

@@ -3,6 +3,7 @@
 
 pub mod access;
 pub mod drops;
+pub mod life;
 pub mod load;
 pub mod look;
 pub mod promises;
@@ -10,4 +11,5 @@ pub mod registers;
 pub mod request;
 pub mod resolve;
 pub mod tally;
+pub mod twin;
 pub mod unit;

@@ -11,7 +11,7 @@ pub enum Request {
     Look { kind: u32, slot: u32 },
 }
 
-#[derive(Drop)]
+#[derive(Clone, Copy)]
 pub enum Reply {
     Answer(Answer),
     // the entry that a look saw
