@@ -2,7 +2,7 @@
 use Rattle.std.specs.Prelude.{◌≡◌, ℕ, Bool, true, false, List, [], ◌∷◌, Some, None, Option}
 use Rattle.std.specs.Result.{result_err}
 use Rattle.std.specs.Option.{option_map}
-use Rattle.std.specs.List.{AllByRecursion as All}
+use Rattle.std.specs.List.{AllByRecursion}
 use Rattle.calls.specs.Fault.{figures_of}
 use Rattle.tlb.specs.Control.{next_index}
 use Rattle.tlb.specs.Page.{common_of, contains, physical}
@@ -59,4 +59,4 @@ worked =
     ∷ []
 
 abbrev pub Worked : Type 0
-Worked = All Holds worked
+Worked = AllByRecursion Holds worked

@@ -1,0 +1,14 @@
+use Rattle.std.proofs.Common.{◌≡◌, [], ◌∷◌, ◌++◌, string_bytes, refl, ap, ◌∙◌, append_assoc}
+use lib.Utf8.{encode}
+use Rattle.std.proofs.lemmas.Slice.{pushed}
+use Rattle.text.specs.Answers.{text_of}
+use Rattle.twin_bench.proofs.account.add_line.Goals as goal
+
+pub returns : goal.returns
+unfolding encode
+returns c =
+    let before = string_bytes c.args.out.now in
+    let body : c.as_str.result.now ≡ text_of c.args.answer = c.as_str.ensures.value ∙ c.in_ok-text.ensures in
+    let one = pushed c.as_str.result.now refl c.in_ok-push_str.was c.push_str.ensures.bytes in
+    let two = pushed (encode 10) one c.in_ok-push.was c.push.ensures.bytes in
+    two ∙ append_assoc before c.as_str.result.now (10 ∷ []) ∙ ap (λ l. before ++ (l ++ 10 ∷ [])) body

@@ -1,0 +1,7 @@
+use Rattle.std.proofs.Common.{◌≡◌, ◌++◌, drop, string_bytes}
+use Rattle.twin_bench.specs.Telling.{told}
+use Rattle.twin_bench.proofs.account.tell.Given as goal
+
+-- what is told and what is still to be told make the account
+abbrev pub invariant-loop-line : goal.invariant-loop-line
+invariant-loop-line l = string_bytes l.out ++ told (drop l.line-index l.lines) l.rest ≡ told l.lines l.replies
