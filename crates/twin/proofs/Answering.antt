@@ -1,5 +1,5 @@
 -- A kind's answer is that of its half. Assumes nothing.
-use Rattle.std.proofs.Common.{◌≡◌, ℕ, Bool, true, false, sym, refl, ap, ◌∙◌}
+use Rattle.std.proofs.Common.{◌≡◌, ℕ, Bool, true, false, refl, ap, ◌∙◌}
 use Rattle.calls.specs.declared.answer.Answer.{Answer}
 use Rattle.mmu.specs.declared.rights.Access.{Access}
 use Rattle.tlb.specs.declared.register.Kind.{Kind}

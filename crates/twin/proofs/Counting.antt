@@ -1,13 +1,11 @@
 -- A page that a resolve loads stays for 27 more loads of its kind, or 31. Assumes nothing.
-use Rattle.std.proofs.Common.{◌≡◌, ℕ, zero, suc, ◌+◌, ◌-◌, ◌*◌, ◌/◌, ◌%◌, ◌^◌, ◌<◌, ◌≤◌, Bool, true, false, cond, ◌&&◌, ◌||◌, eqb, ◌⊎◌, List, [], ◌∷◌, ◌++◌, length, get_or, Some, None, Option, sym, refl, ap, ◌∙◌, subst, inl, inr, ⊎_elim, append_assoc, arith}
+use Rattle.std.proofs.Common.{◌≡◌, ℕ, ◌<◌, Bool, true, false, ◌&&◌, eqb, List, [], ◌∷◌, Some, None, Option, sym, refl, ap, ◌∙◌, arith}
 use Rattle.std.proofs.lemmas.Nat.{shr-shr}
-use Rattle.std.proofs.lemmas.Bool.{ne_eqb, eqb-true, or_parts, or_from, both_ways, and_from}
 use Rattle.board.specs.Memory.{Meaning}
 use Rattle.calls.specs.declared.call.Call as calls
 use Rattle.calls.specs.declared.call.Call.TheVariants.{Poke, Peek, Write, Read, Mode, Resolve, Drop, DropAll, Tally}
 use Rattle.calls.specs.declared.fault.Misuse.{Misuse}
 use Rattle.mmu.specs.declared.rights.Access as accesses
-use Rattle.tlb.specs.Bits.{field, flag}
 use Rattle.tlb.specs.Control.{index_of, next_index, reserve}
 use Rattle.tlb.specs.Register.{register_at}
 use Rattle.tlb.specs.declared.entry.Entry.{Entry}
@@ -15,17 +13,15 @@ use Rattle.tlb.specs.declared.register.Kind.{Kind}
 use Rattle.tlb.specs.declared.register.Kind.TheVariants.{Instruction, Data}
 use Rattle.tlb.specs.declared.register.Register.{Register}
 use Rattle.tlb.specs.declared.register.Register.TheVariants.{Ctr, Ap, Epn, Twc, Rpn, Casid, Twb, Tw}
-use Rattle.twin.proofs.Follows.{index_small}
-use Rattle.twin.proofs.Pages.{next_small}
 use Rattle.twin.proofs.Sources.{no_true}
 use Rattle.mmu.specs.Rights.{access_of, kind_of}
 use Rattle.twin.specs.Access.{translates, slot_found, access_left, found_left, missed_unit}
-use Rattle.twin.specs.Call.{outcome, call_outcome, write_outcome, write_by, access_outcome, resolve_outcome}
-use Rattle.twin.specs.History.{refills, refilled, loads_in}
-use Rattle.twin.specs.Life.{State, begin, step, next, after, history}
+use Rattle.twin.specs.Call.{call_outcome, write_outcome, write_by, access_outcome, resolve_outcome}
+use Rattle.twin.specs.History.{refilled, loads_in}
+use Rattle.twin.specs.Life.{State, step}
 use Rattle.tlb.specs.Control.{with_index}
-use Rattle.twin.specs.Load.{Event, Loaded, Dropped, DroppedAll, load_event, loaded_entry}
-use Rattle.twin.specs.Promises.{sets, call_sets, sets_control, some_sets, same_kind, accepted}
+use Rattle.twin.specs.Load.{Event, Loaded, load_event, loaded_entry}
+use Rattle.twin.specs.Promises.{sets, call_sets, sets_control, same_kind, accepted}
 use Rattle.twin.specs.Registers.{misused, register_written, write_events}
 use Rattle.twin.specs.Resolve.{Walked, StoppedFirst, StoppedSecond, Passed, walked, resolved, resolve_found, resolve_walked, resolve_missed, first_written, loaded_unit, only}
 use Rattle.twin.specs.Unit.{Page, shape, half, put, space}

@@ -1,5 +1,5 @@
 -- The example lives, computed. Assumes nothing.
-use Rattle.std.proofs.Common.{◌≡◌, ℕ, Bool, true, false, ◌⊎◌, List, [], ◌∷◌, ◌++◌, Ok, Err, Result, sym, refl, ap, ◌∙◌, inl, inr, arith, lit<}
+use Rattle.std.proofs.Common.{◌≡◌, ℕ, true, false, ◌⊎◌, List, [], ◌∷◌, ◌++◌, Ok, Err, sym, refl, ap, ◌∙◌, inl, inr, arith, lit<}
 use Rattle.std.proofs.lemmas.Bool.{both_ways, or_left}
 use Rattle.calls.specs.declared.fault.Fault.{Fault}
 use Rattle.mmu.specs.Rights.{allows, ruling_of}
@@ -10,7 +10,7 @@ use Rattle.tlb.specs.declared.entry.Entry.{Entry}
 use Rattle.tlb.specs.declared.register.Kind.TheVariants.{Data}
 use Rattle.twin.proofs.Staying.{loads_append}
 use Rattle.twin.specs.Example.{Example}
-use Rattle.twin.specs.History.{LoadIn, clears, cleared, loads_in}
+use Rattle.twin.specs.History.{clears, cleared, loads_in}
 use Rattle.tlb.specs.Control.{with_index}
 use Rattle.twin.specs.Load.{Event, Loaded, Dropped, missed_epn}
 use Rattle.twin.specs.Resolve.{walked}

@@ -1,5 +1,5 @@
 -- In every life the slots of both kinds are as the history has them. Assumes nothing.
-use Rattle.std.proofs.Common.{◌≡◌, ℕ, ◌+◌, ◌-◌, ◌^◌, ◌<◌, Bool, true, false, List, [], ◌∷◌, ◌++◌, Some, None, Option, sym, refl, ap, ◌∙◌, subst, append_assoc, append-nil}
+use Rattle.std.proofs.Common.{◌≡◌, ℕ, ◌^◌, ◌<◌, Bool, true, false, List, [], ◌∷◌, ◌++◌, Some, None, Option, sym, refl, subst, append_assoc, append-nil}
 use Rattle.std.proofs.lemmas.Nat.{mod_below, pow_pos}
 use Rattle.board.specs.Memory.{Meaning}
 use Rattle.calls.specs.declared.call.Call.{Call}
@@ -8,7 +8,6 @@ use Rattle.calls.specs.declared.fault.Misuse.{Misuse}
 use Rattle.mmu.specs.declared.rights.Access as accesses
 use Rattle.tlb.specs.Control.{index_of}
 use Rattle.tlb.specs.Register.{register_at}
-use Rattle.tlb.specs.declared.entry.Entry.{Entry}
 use Rattle.tlb.specs.declared.register.Kind.{Kind}
 use Rattle.tlb.specs.declared.register.Kind.TheVariants.{Instruction, Data}
 use Rattle.tlb.specs.declared.register.Register.{Register}
@@ -16,10 +15,10 @@ use Rattle.tlb.specs.declared.register.Register.TheVariants.{Ctr, Ap, Epn, Twc, 
 use Rattle.twin.proofs.Slots.{Follows, follows_new, follows_load, follows_drop, follows_drop_all}
 use Rattle.mmu.specs.Rights.{access_of, kind_of}
 use Rattle.twin.specs.Access.{translates, slot_found, access_left, found_left, missed_unit}
-use Rattle.twin.specs.Call.{Outcome, outcome, call_outcome, write_outcome, write_by, access_outcome, resolve_outcome}
+use Rattle.twin.specs.Call.{call_outcome, write_outcome, write_by, access_outcome, resolve_outcome}
 use Rattle.twin.specs.Life.{State, begin, step, next, after, history}
 use Rattle.twin.specs.Load.{Event, load_event}
-use Rattle.twin.specs.Registers.{misused, register_written, kept_written, write_events}
+use Rattle.twin.specs.Registers.{misused, register_written, write_events}
 use Rattle.twin.specs.Resolve.{Walked, StoppedFirst, StoppedSecond, Passed, walked, resolved, resolve_found, resolve_walked, resolve_missed, first_written, first_data, loaded_unit, only}
 use Rattle.twin.specs.Unit.{Page, shape, half, put, zero_entry, space}
 use Rattle.twin.specs.declared.request.Request.{Request}

@@ -1,28 +1,23 @@
 -- Every grant with translation on is what its source gives. Assumes nothing.
-use Rattle.std.proofs.Common.{◌≡◌, ℕ, ◌+◌, ◌<◌, Bool, true, false, List, [], ◌∷◌, ◌++◌, get_or, Some, None, Ok, Err, Option, Result, sym, refl, ap, ◌∙◌, subst, arith}
-use Rattle.board.specs.Memory.{Meaning}
+use Rattle.std.proofs.Common.{◌≡◌, ℕ, ◌<◌, Bool, true, false, List, ◌++◌, get_or, Some, None, Ok, Err, Option, Result, sym, refl, ap, ◌∙◌, subst, arith}
 use Rattle.calls.specs.declared.answer.Answer.{Answer}
-use Rattle.calls.specs.declared.answer.Answer.TheVariants.{Done, Value, Miss, Granted, Refused}
+use Rattle.calls.specs.declared.answer.Answer.TheVariants.{Miss, Granted, Refused}
 use Rattle.calls.specs.declared.answer.Grant.{Grant}
 use Rattle.calls.specs.declared.fault.Fault.{Fault}
 use Rattle.mmu.specs.declared.rights.Access.{Access}
-use Rattle.tlb.specs.declared.entry.Entry.{Entry}
 use Rattle.tlb.specs.declared.register.Kind.{Kind}
 use Rattle.twin.proofs.Follows.{Kept, kept_life, kept_step}
 use Rattle.twin.proofs.Slots.{holds}
-use Rattle.twin.proofs.Sources.{no_true, Found, find_source, source_of, At, found_at, serves_live}
+use Rattle.twin.proofs.Sources.{no_true, Found, find_source, source_of, found_at, serves_live}
 use Rattle.mmu.specs.Rights.{access_of, kind_of}
 use Rattle.twin.specs.Access.{translates, serves, slot_found, page_gives, answer_of, found_answer, translated_answer, access_answer, access_left, found_left}
-use Rattle.twin.specs.Call.{Outcome, access_outcome, resolve_outcome}
-use Rattle.twin.specs.History.{Source}
+use Rattle.twin.specs.Call.{access_outcome, resolve_outcome}
 use Rattle.twin.specs.Life.{State, begin, step, next, after, history}
 use Rattle.twin.specs.Load.{Event}
 use Rattle.twin.specs.Promises.{asks, settings, Sourced, GrantsSourced}
-use Rattle.twin.specs.Resolve.{Walked, StoppedFirst, StoppedSecond, Passed, walked, ResultOf, resolved, resolve_found, resolve_walked, resolve_missed}
+use Rattle.twin.specs.Resolve.{Walked, StoppedFirst, StoppedSecond, Passed, walked, resolved, resolve_found, resolve_walked, resolve_missed}
 use Rattle.twin.specs.Unit.{Page, shape, half, zero_entry, space}
-use Rattle.twin.specs.declared.request.Reply.{Reply}
 use Rattle.twin.specs.declared.request.Reply.TheVariants as replies
-use Rattle.twin.specs.declared.request.Request.{Request}
 use Rattle.twin.specs.declared.unit.Mmu.{Mmu}
 
 granted_ok : (r : Result Grant Fault) (g : Grant) → answer_of r ≡ Granted g → r ≡ Ok g

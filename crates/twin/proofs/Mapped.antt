@@ -1,10 +1,9 @@
 -- A loop that changes each slot of a half in place. Assumes nothing.
-use Rattle.std.proofs.Common.{◌≡◌, ℕ, ◌+◌, ◌<◌, ◌≤◌, Bool, true, false, List, [], ◌++◌, map, length, get_or, take, drop, set, ap, ◌∙◌, append-nil, arith}
+use Rattle.std.proofs.Common.{◌≡◌, ℕ, ◌+◌, ◌<◌, ◌≤◌, Bool, true, false, ◌++◌, map, length, get_or, take, drop, set, ap, ◌∙◌, append-nil, arith}
 use Rattle.std.proofs.lemmas.List.Edits.{map_over_more}
 use Rattle.std.proofs.lemmas.List.{take_all, drop_all}
-use Rattle.tlb.specs.Control.{reserve}
 use Rattle.tlb.specs.declared.entry.Entry.{Entry}
-use Rattle.twin.specs.Load.{with_slots, ended, all_ended, unspared, drop_all_half}
+use Rattle.twin.specs.Load.{with_slots, ended, all_ended, unspared}
 use Rattle.twin.specs.declared.unit.Half.{Half}
 
 module _ {P : Type 0} (f : Entry P → Entry P) (old now : Half P) (i : ℕ) where

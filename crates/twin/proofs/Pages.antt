@@ -1,15 +1,14 @@
 -- The page that a resolve loads is the page that it read, and its entry serves the address. Assumes nothing.
-use Rattle.std.proofs.Common.{◌≡◌, ℕ, ◌+◌, ◌-◌, ◌*◌, ◌/◌, ◌%◌, ◌^◌, ◌<◌, ◌≤◌, Bool, true, false, cond, ◌&&◌, ◌||◌, eqb, sym, refl, ap, ◌∙◌, arith}
+use Rattle.std.proofs.Common.{◌≡◌, ℕ, ◌+◌, ◌*◌, ◌/◌, ◌^◌, ◌<◌, Bool, true, false, cond, ◌&&◌, eqb, refl, ap, ◌∙◌, arith}
 use lib.Bits.{bit_and, and_high}
 use Rattle.std.proofs.lemmas.Nat.{shr-shr, mod_below, pow_pos}
 use Rattle.std.proofs.lemmas.Bool.{eq-eqb, or_right, and_from}
 use Rattle.tlb.proofs.Fields.{field_kept}
 use Rattle.tlb.specs.Bits.{field, flag, cleared}
 use Rattle.tlb.specs.Control.{group_mode, next_index}
-use Rattle.tlb.specs.Entry.{entry_of, matched}
-use Rattle.tlb.specs.Page.{offset_bits, size_of, common_of, contains, instruction_page, data_page}
+use Rattle.tlb.specs.Entry.{entry_of}
+use Rattle.tlb.specs.Page.{offset_bits, size_of, common_of, contains}
 use Rattle.tlb.specs.Register.{kept_bits}
-use Rattle.tlb.specs.declared.page.Common.{Common}
 use Rattle.tlb.specs.declared.page.Size.{Size}
 use Rattle.tlb.specs.declared.page.Size.TheVariants.{Kb4, Kb16, Kb512, Mb8}
 use Rattle.tlb.specs.declared.register.Kind.{Kind}
@@ -18,7 +17,7 @@ use Rattle.tlb.specs.declared.register.Register.TheVariants.{Twc}
 use Rattle.twin.specs.Access.{serves}
 use Rattle.tlb.specs.Control.{with_index}
 use Rattle.twin.specs.Load.{missed_epn}
-use Rattle.twin.specs.Unit.{Page, shape}
+use Rattle.twin.specs.Unit.{shape}
 
 -- a missed EPN is the address's page number, the live bit and the space
 epn_is : (e sp : ℕ) → e < 2 ^ 32 → missed_epn e sp ≡ e / 2 ^ 12 * 2 ^ 12 + 0x200 + sp

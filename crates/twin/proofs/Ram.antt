@@ -1,5 +1,5 @@
 -- Of RAM the pile is its bytes, in every life, and the lender's own. Assumes nothing.
-use Rattle.std.proofs.Common.{◌≡◌, ℕ, List, [], ◌∷◌, Ok, Err, Result, sym, refl, ap, ◌∙◌}
+use Rattle.std.proofs.Common.{◌≡◌, ℕ, List, [], ◌∷◌, sym, refl, ap, ◌∙◌}
 use Rattle.board.proofs.Words.{lent_left}
 use Rattle.board.specs.Memory.{Meaning, poked}
 use Rattle.board.specs.Pile.{Pile, Lent, Both, Here}

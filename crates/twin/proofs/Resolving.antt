@@ -2,22 +2,19 @@
 use Rattle.std.proofs.Common.{◌≡◌, ℕ, Bool, true, false, Some, None, Ok, Err, Option, Result, sym, refl, ap, ◌∙◌, arith}
 use Rattle.board.specs.Memory.{Meaning}
 use Rattle.calls.specs.declared.answer.Answer.{Answer}
-use Rattle.calls.specs.declared.answer.Answer.TheVariants.{Miss, Granted, Refused}
+use Rattle.calls.specs.declared.answer.Answer.TheVariants.{Miss, Refused}
 use Rattle.calls.specs.declared.answer.Grant.{Grant}
 use Rattle.calls.specs.declared.fault.Fault.{Fault}
 use Rattle.mmu.specs.Rights.{access_of, kind_of}
 use Rattle.mmu.specs.Walk.{first_word, second_word}
 use Rattle.mmu.specs.declared.rights.Access.{Access}
-use Rattle.twin.specs.Unit.{Shape}
-use Rattle.tlb.specs.declared.entry.Entry.{Entry}
 use Rattle.tlb.specs.declared.register.Kind.{Kind}
 use Rattle.tlb.specs.declared.register.Kind.TheVariants.{Instruction, Data}
-use Rattle.twin.specs.Access.{answer_of, page_gives, protection, found_answer, translated_answer, access_answer, slot_found}
+use Rattle.twin.specs.Access.{answer_of, found_answer, translated_answer, access_answer, slot_found}
 use Rattle.twin.specs.Access.{missed_unit}
-use Rattle.twin.specs.Resolve.{Walked, StoppedFirst, StoppedSecond, Passed, from_first, behind_first, walked, walk_result, walk_unit, first_written, first_data, resolve_missed, resolve_walked, resolve_found, resolved, resolve_of, ResultOf}
+use Rattle.twin.specs.Resolve.{Walked, StoppedFirst, StoppedSecond, Passed, from_first, behind_first, walked, walk_result, walk_unit, resolve_missed, resolve_walked, resolve_found, resolved, resolve_of, ResultOf}
 use Rattle.twin.specs.Access.{translates}
-use Rattle.twin.specs.Unit.{shape, half, put, space, zero_entry}
-use Rattle.twin.specs.declared.unit.Half.{Half}
+use Rattle.twin.specs.Unit.{shape, half, space, zero_entry}
 use Rattle.twin.specs.declared.unit.Mmu.{Mmu}
 
 -- where a walk stops, by its two words

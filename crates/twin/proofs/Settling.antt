@@ -1,35 +1,31 @@
 -- A settled resolve answers what the tables give now. Assumes nothing.
-use Rattle.std.proofs.Common.{◌≡◌, ℕ, zero, suc, ◌+◌, ◌^◌, ◌<◌, Bool, true, false, cond, ◌⊎◌, List, [], ◌∷◌, ◌++◌, length, get_or, set, Some, None, Ok, Err, Option, Result, sym, refl, ap, ◌∙◌, subst, inl, inr, arith}
+use Rattle.std.proofs.Common.{◌≡◌, ℕ, zero, suc, ◌+◌, ◌^◌, ◌<◌, Bool, true, false, cond, ◌⊎◌, List, [], ◌∷◌, length, set, Some, None, Ok, Err, Option, Result, sym, refl, ap, ◌∙◌, inl, inr, arith}
 use Rattle.std.proofs.lemmas.List.{get_or-set_same}
 use Rattle.std.proofs.lemmas.Bool.{both_ways}
 use Rattle.board.specs.Memory.{Meaning}
-use Rattle.calls.specs.declared.answer.Answer.{Answer}
 use Rattle.calls.specs.declared.fault.Fault.{Fault}
 use Rattle.mmu.specs.Walk.{onward, first_word, second_word, reading_of}
 use Rattle.mmu.specs.declared.rights.Access.{Access}
-use Rattle.mmu.specs.declared.rights.Protection.{Protection}
-use Rattle.tlb.specs.Control.{index_of, next_index, reserve, group_mode}
-use Rattle.tlb.specs.Search.{lowest_from, lowest}
+use Rattle.tlb.specs.Control.{index_of, next_index, reserve}
+use Rattle.tlb.specs.Search.{lowest_from}
 use Rattle.tlb.specs.declared.entry.Entry.{Entry}
 use Rattle.tlb.specs.declared.register.Kind.{Kind}
 use Rattle.tlb.specs.declared.register.Kind.TheVariants.{Instruction, Data}
 use Rattle.twin.proofs.Follows.{Kept, kept_life, index_small}
 use Rattle.twin.proofs.Grants.{Hit, hit}
 use Rattle.twin.proofs.Pages.{page_same, loaded_serves, index_mode, space_small, next_small}
-use Rattle.twin.proofs.Slots.{holds}
 use Rattle.twin.proofs.Sources.{no_true, source_of}
-use Rattle.mmu.specs.Rights.{access_of, kind_of}
+use Rattle.mmu.specs.Rights.{kind_of}
 use Rattle.twin.specs.Access.{translates, serves, slot_found, page_gives, answer_of, found_answer, translated_answer, protection}
 use Rattle.twin.specs.Call.{resolve_outcome}
-use Rattle.twin.specs.History.{LoadIn, Source, cleared}
-use Rattle.twin.specs.Life.{State, begin, step, next, after, history}
+use Rattle.twin.specs.History.{cleared}
+use Rattle.twin.specs.Life.{State, begin, after, history}
 use Rattle.twin.specs.Load.{Event, loaded, loaded_entry}
-use Rattle.twin.specs.Promises.{asks, settings, reading, reading_answer, Settled, SettledResolve, SettledAnswers, LivesAlike}
+use Rattle.twin.specs.Promises.{settings, reading, reading_answer, Settled, SettledAnswers, LivesAlike}
 use Rattle.twin.specs.Resolve.{Walked, StoppedFirst, StoppedSecond, Passed, behind_first, from_first, walked, reading_by, resolved, resolve_found, resolve_walked, resolve_missed, first_written, loaded_unit}
 use Rattle.twin.specs.Tells.{tells}
 use Rattle.twin.specs.Unit.{Page, Shape, shape, half, zero_entry, space}
 use Rattle.twin.specs.declared.request.Reply.TheVariants as replies
-use Rattle.twin.specs.declared.request.Request.{Request}
 use Rattle.twin.specs.declared.unit.Half.{Half}
 use Rattle.twin.specs.declared.unit.Mmu.{Mmu}
 

@@ -1,10 +1,8 @@
 -- What a slot holds, by the history alone; and that loads and drops change the slots as their events say. Assumes nothing.
-use Rattle.std.proofs.Common.{◌≡◌, ℕ, zero, suc, ◌+◌, ◌-◌, ◌<◌, ◌≤◌, Bool, true, false, cond, not, ◌&&◌, ◌||◌, eqb, leb, List, [], ◌∷◌, ◌++◌, map, length, get_or, take, drop, set, replicate, sym, refl, ap, ◌∙◌, subst, ⊎_elim, arith}
+use Rattle.std.proofs.Common.{◌≡◌, ℕ, ◌+◌, ◌-◌, ◌<◌, Bool, true, false, cond, eqb, leb, List, [], ◌∷◌, ◌++◌, map, length, get_or, take, drop, set, replicate, sym, refl, ap, ◌∙◌, subst, arith}
 use Rattle.std.proofs.lemmas.List.{length-set, length-map, length-take, length-drop, length-append, length-replicate, get_or-set_same, get_or-set_other, get_or-map, get_or-take, get_or-drop, get_or_append_left, get_or-append-add, get_or-replicate}
-use Rattle.std.proofs.lemmas.Bool.{eqb-true, eqb-false, leb-true, leb-false, le-leb, lt-leb, eq-eqb, cases_lt}
-use Rattle.tlb.specs.Page.{contains}
+use Rattle.std.proofs.lemmas.Bool.{eqb-true, eqb-false, leb-true, leb-false}
 use Rattle.tlb.specs.declared.entry.Entry.{Entry}
-use Rattle.twin.specs.History.{LoadIn, refilled, cleared}
 use Rattle.twin.specs.Load.{Event, Loaded, Dropped, DroppedAll, spares, ended, dropped, all_ended}
 use Rattle.twin.specs.Unit.{Shape}
 

@@ -1,10 +1,10 @@
 -- A live slot has its source in the history; and what the search finds. Assumes nothing.
-use Rattle.std.proofs.Common.{◌≡◌, ℕ, zero, suc, ◌+◌, ◌<◌, Bool, true, false, cond, not, ◌&&◌, ◌||◌, eqb, leb, List, [], ◌∷◌, ◌++◌, length, get_or, set, Some, None, Option, sym, refl, ap, ◌∙◌, subst, ⊎_elim, arith}
-use Rattle.std.proofs.lemmas.Bool.{eqb-true, both_ways, or_from, and_parts, cases_Bool}
+use Rattle.std.proofs.Common.{◌≡◌, ℕ, suc, ◌+◌, ◌<◌, Bool, true, false, cond, not, eqb, List, [], ◌∷◌, length, get_or, Some, sym, refl, ap, ◌∙◌, arith}
+use Rattle.std.proofs.lemmas.Bool.{eqb-true, both_ways, or_from, and_parts}
 use Rattle.tlb.specs.Page.{contains}
-use Rattle.tlb.specs.Search.{lowest_from, lowest}
+use Rattle.tlb.specs.Search.{lowest_from}
 use Rattle.tlb.specs.declared.entry.Entry.{Entry}
-use Rattle.twin.proofs.Slots.{holds, Follows}
+use Rattle.twin.proofs.Slots.{holds}
 use Rattle.twin.specs.Access.{serves}
 use Rattle.twin.specs.History.{LoadIn, refills, refilled, clears, cleared, admits, Source}
 use Rattle.twin.specs.Load.{Event, Loaded, Dropped, DroppedAll, spares, ended, dropped}

@@ -1,9 +1,8 @@
 -- The proof that a page which a resolve loads is not missed while few loads follow. Assumes nothing.
-use Rattle.std.proofs.Common.{◌≡◌, ℕ, zero, suc, ◌+◌, ◌-◌, ◌*◌, ◌/◌, ◌%◌, ◌^◌, ◌<◌, ◌≤◌, Bool, true, false, cond, ◌&&◌, ◌||◌, eqb, ◌⊎◌, List, [], ◌∷◌, ◌++◌, length, get_or, Some, None, Ok, Err, Option, Result, sym, refl, ap, ◌∙◌, subst, inl, inr, append_assoc, append-nil, arith}
-use Rattle.std.proofs.lemmas.Bool.{ne_eqb, eq-eqb, or_parts, or_from, both_ways, and_from}
+use Rattle.std.proofs.Common.{◌≡◌, ℕ, zero, suc, ◌+◌, ◌%◌, ◌<◌, ◌≤◌, Bool, true, false, cond, eqb, List, [], ◌∷◌, ◌++◌, length, get_or, Some, None, Ok, Err, Option, Result, sym, refl, ap, ◌∙◌, subst, inl, inr, append_assoc, append-nil, arith}
+use Rattle.std.proofs.lemmas.Bool.{ne_eqb, eq-eqb, or_parts, or_from, and_from}
 use Rattle.board.specs.Memory.{Meaning}
-use Rattle.calls.specs.declared.answer.Answer.{Answer}
-use Rattle.calls.specs.declared.answer.Answer.TheVariants.{Miss, Granted, Refused}
+use Rattle.calls.specs.declared.answer.Answer.TheVariants.{Miss}
 use Rattle.calls.specs.declared.answer.Grant.{Grant}
 use Rattle.calls.specs.declared.fault.Fault.{Fault}
 use Rattle.mmu.specs.declared.rights.Access.{Access}
@@ -14,18 +13,17 @@ use Rattle.tlb.specs.declared.entry.Entry.{Entry}
 use Rattle.tlb.specs.declared.register.Kind.{Kind}
 use Rattle.tlb.specs.declared.register.Kind.TheVariants.{Instruction, Data}
 use Rattle.twin.proofs.Counting.{index_set, reserve_set, Moves, stands, turns, moves}
-use Rattle.twin.proofs.Follows.{Kept, kept_life, kept_step, kept_after, index_small}
+use Rattle.twin.proofs.Follows.{kept_life, kept_step, kept_after, index_small}
 use Rattle.twin.proofs.Pages.{next_small, epn_lives, space_small}
 use Rattle.twin.proofs.Slots.{holds}
 use Rattle.twin.proofs.Sources.{no_true}
 use Rattle.mmu.specs.Rights.{access_of, kind_of}
-use Rattle.twin.specs.Access.{translates, serves, slot_found, page_gives, answer_of, found_answer, translated_answer, access_answer, access_left}
+use Rattle.twin.specs.Access.{translates, serves, slot_found, answer_of, found_answer, access_answer}
 use Rattle.twin.specs.Call.{access_outcome, resolve_outcome}
-use Rattle.twin.specs.History.{refills, refilled, loads_in, disturbs, disturbed, admits}
+use Rattle.twin.specs.History.{refills, refilled, loads_in, disturbed, admits}
 use Rattle.twin.specs.Life.{State, begin, step, next, after, history}
-use Rattle.tlb.specs.Control.{with_index}
-use Rattle.twin.specs.Load.{Event, Loaded, Dropped, DroppedAll, spares, ended, dropped, load_event}
-use Rattle.twin.specs.Promises.{asks, settings, sets, some_sets, Few, LoadedBy, NotMissed, LoadedStays}
+use Rattle.twin.specs.Load.{Event, Loaded, Dropped, DroppedAll, ended, dropped, load_event}
+use Rattle.twin.specs.Promises.{asks, sets, some_sets, Few, LoadedBy, NotMissed, LoadedStays}
 use Rattle.twin.specs.Resolve.{Walked, StoppedFirst, StoppedSecond, Passed, walked, resolved, resolve_found, resolve_walked, resolve_missed, first_written, only}
 use Rattle.twin.specs.Unit.{Page, Shape, shape, half, zero_entry, space}
 use Rattle.twin.specs.declared.request.Reply.TheVariants as replies

@@ -1,5 +1,5 @@
 -- Access: what it answers, and what it leaves. Assumes nothing.
-use Rattle.std.specs.Prelude.{ℕ, Bool, true, false, cond, List, Some, None, Ok, Err, Option, Result, ◌==◌, slice_index_or}
+use Rattle.std.specs.Prelude.{ℕ, Bool, true, false, Some, None, Ok, Err, Option, Result, slice_index_or}
 use Rattle.calls.specs.declared.answer.Answer.{Answer}
 use Rattle.calls.specs.declared.answer.Answer.TheVariants.{Miss, Granted, Refused}
 use Rattle.calls.specs.declared.answer.Grant.{Grant}
@@ -8,7 +8,6 @@ use Rattle.calls.specs.declared.fault.Fault.TheVariants.{NoKind}
 use Rattle.mmu.specs.Rights.{kind_of}
 use Rattle.mmu.specs.Verdict.{gives, through_for}
 use Rattle.mmu.specs.declared.rights.Access.{Access}
-use Rattle.mmu.specs.declared.rights.Access.TheVariants.{Fetch, Load, Store}
 use Rattle.mmu.specs.declared.rights.Protection.{Protection}
 use Rattle.tlb.specs.Control.{group_mode, default_inhibit, default_through}
 use Rattle.tlb.specs.Entry.{entry_of, matched}
@@ -17,7 +16,7 @@ use Rattle.tlb.specs.declared.entry.Entry.{Entry}
 use Rattle.tlb.specs.declared.register.Kind.{Kind}
 use Rattle.tlb.specs.declared.register.Kind.TheVariants.{Instruction, Data}
 use Rattle.twin.specs.Load.{missed}
-use Rattle.twin.specs.Unit.{Page, Shape, shape, half, put, space, zero_entry}
+use Rattle.twin.specs.Unit.{Shape, shape, half, put, space, zero_entry}
 use Rattle.twin.specs.declared.unit.Half.{Half}
 use Rattle.twin.specs.declared.unit.Mode.{Mode}
 use Rattle.twin.specs.declared.unit.Mmu.{Mmu}

@@ -1,12 +1,11 @@
 -- One definition for each call: its reply, the unit and memory that it leaves, and its events. Assumes nothing.
-use Rattle.std.specs.Prelude.{ℕ, Bool, true, false, cond, List, [], ◌∷◌, Some, None, Ok, Err, Option, Result, ◌==◌, nat_le, slice_index_or}
+use Rattle.std.specs.Prelude.{ℕ, Bool, cond, List, [], ◌∷◌, Some, None, Option, ◌==◌, nat_le, slice_index_or}
 use Rattle.board.specs.Memory.{Meaning, peeked, poked, stored}
 use Rattle.calls.specs.Answer.{peek_answer, poke_answer}
 use Rattle.calls.specs.declared.answer.Answer.{Answer}
 use Rattle.calls.specs.declared.answer.Answer.TheVariants.{Done, Value, Refused}
 use Rattle.calls.specs.declared.call.Call as calls
 use Rattle.calls.specs.declared.call.Call.TheVariants.{Poke, Peek, Write, Read, Mode, Access, Resolve, Drop, DropAll, Tally}
-use Rattle.calls.specs.declared.fault.Fault.{Fault}
 use Rattle.calls.specs.declared.fault.Fault.TheVariants.{Register, NoKind, NoSlot}
 use Rattle.calls.specs.declared.fault.Misuse.{Misuse}
 use Rattle.calls.specs.declared.fault.Misuse.TheVariants.{NoRegister}

@@ -1,15 +1,14 @@
 -- Lives in which the promises have something to say. Assumes nothing.
-use Rattle.std.specs.Prelude.{◌≡◌, ℕ, zero, suc, Bool, true, false, cond, List, [], ◌∷◌, ◌++◌, Some, None, Option, ◌==◌}
+use Rattle.std.specs.Prelude.{◌≡◌, ℕ, zero, suc, true, false, cond, List, [], ◌∷◌, ◌++◌, Some, None, ◌==◌}
 use Rattle.board.specs.Memory.{Meaning}
 use Rattle.calls.specs.declared.answer.Answer.{Answer}
 use Rattle.calls.specs.declared.answer.Answer.TheVariants.{Done, Miss, Granted, Refused}
-use Rattle.calls.specs.declared.answer.Grant.{Grant}
 use Rattle.calls.specs.declared.call.Call as calls
 use Rattle.calls.specs.declared.call.Call.TheVariants.{Poke, Write, Mode, Access, Resolve, Drop}
 use Rattle.calls.specs.declared.fault.Descriptor.TheVariants.{SecondInvalid}
 use Rattle.calls.specs.declared.fault.Fault.TheVariants.{Walk}
 use Rattle.mmu.specs.declared.rights.Access.TheVariants.{Load}
-use Rattle.twin.specs.Life.{begin, step, after, replies}
+use Rattle.twin.specs.Life.{begin, replies}
 use Rattle.twin.specs.Promises.{SettledResolve}
 use Rattle.twin.specs.declared.request.Reply.{Reply}
 use Rattle.twin.specs.declared.request.Reply.TheVariants.{Answer as Told}

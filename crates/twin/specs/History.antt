@@ -1,5 +1,5 @@
 -- Histories of a kind: loads, and what clears them. Assumes nothing.
-use Rattle.std.specs.Prelude.{◌≡◌, ℕ, ◌+◌, Bool, true, false, not, ◌||◌, ◌⊎◌, List, [], ◌∷◌, ◌++◌, ◌==◌}
+use Rattle.std.specs.Prelude.{◌≡◌, ℕ, ◌+◌, Bool, true, false, not, ◌||◌, List, [], ◌∷◌, ◌++◌, ◌==◌}
 use Rattle.tlb.specs.Page.{contains}
 use Rattle.tlb.specs.declared.entry.Entry.{Entry}
 use Rattle.twin.specs.Load.{Event, Loaded, Dropped, DroppedAll, spares}

@@ -1,5 +1,5 @@
 -- Loads, drops and misses: what they make of one kind's half. Assumes nothing.
-use Rattle.std.specs.Prelude.{ℕ, ◌+◌, ◌*◌, ◌/◌, ◌%◌, ◌^◌, Bool, true, false, cond, ◌&&◌, List, [], ◌∷◌, ◌++◌, map, take, drop, bit_and, nat_le, slice_set}
+use Rattle.std.specs.Prelude.{ℕ, ◌+◌, Bool, true, false, cond, ◌&&◌, List, ◌++◌, map, take, drop, bit_and, nat_le, slice_set}
 use Rattle.tlb.specs.Control.{index_of, with_index, next_index, reserve}
 use Rattle.tlb.specs.Entry.{entry_of}
 use Rattle.tlb.specs.Page.{contains}

@@ -23,7 +23,7 @@ use Rattle.mmu.specs.Rights.{access_of, kind_of}
 use Rattle.twin.specs.Access.{translates, protection, slot_found, page_gives, answer_of}
 use Rattle.twin.specs.History.{LoadIn, Source, cleared, disturbed, admits, loads_in}
 use Rattle.twin.specs.Life.{State, begin, step, next, after, history}
-use Rattle.twin.specs.Load.{Event, Loaded, Dropped, DroppedAll}
+use Rattle.twin.specs.Load.{Event, Loaded}
 use Rattle.twin.specs.Registers.{misused}
 use Rattle.twin.specs.Tells.{tells}
 use Rattle.twin.specs.Unit.{Page, Shape, shape, half, space}

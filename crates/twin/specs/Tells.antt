@@ -1,10 +1,9 @@
 -- What every reply tells: its number, if it is a fault, and its values. Assumes nothing.
-use Rattle.std.specs.Prelude.{ℕ, Bool, List, [], ◌∷◌, Some, None, Option}
+use Rattle.std.specs.Prelude.{ℕ, List, [], ◌∷◌, Some, None, Option}
 use mir.Val.{bool_byte}
 use Rattle.calls.specs.Fault.{figures_of}
 use Rattle.calls.specs.declared.answer.Answer.{Answer}
 use Rattle.calls.specs.declared.answer.Answer.TheVariants.{Done, Value, Miss, Granted, Refused}
-use Rattle.calls.specs.declared.answer.Grant.{Grant}
 use Rattle.tlb.specs.Page.{bytes_in}
 use Rattle.tlb.specs.declared.page.Common.{Common}
 use Rattle.twin.specs.declared.request.Reply.{Reply}

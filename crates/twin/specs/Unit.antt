@@ -1,5 +1,5 @@
 -- The unit's state, seen by kind. Assumes nothing.
-use Rattle.std.specs.Prelude.{ℕ, Bool, true, false, List, replicate}
+use Rattle.std.specs.Prelude.{ℕ, Bool, true, false, replicate}
 use Rattle.tlb.specs.Bits.{field}
 use Rattle.tlb.specs.Entry.{entry_of}
 use Rattle.tlb.specs.Page.{instruction_page, data_page}
@@ -10,7 +10,6 @@ use Rattle.tlb.specs.declared.page.InstructionPage.{InstructionPage}
 use Rattle.tlb.specs.declared.register.Kind.{Kind}
 use Rattle.tlb.specs.declared.register.Kind.TheVariants.{Instruction, Data}
 use Rattle.twin.specs.declared.unit.Half.{Half}
-use Rattle.twin.specs.declared.unit.Mode.{Mode}
 use Rattle.twin.specs.declared.unit.Mmu.{Mmu}
 
 -- the type of a kind's pages

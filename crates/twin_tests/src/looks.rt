@@ -8,12 +8,11 @@ use tlb::entry::Entry;
 use tlb::page::DataPage;
 use twin::request::{Reply, Request};
 use twin::twin::Twin;
-use unit::look::Seen;
 
 // The data entry that a reply tells of.
 fn seen(reply: Reply) -> Result<Entry<DataPage>, Fail> {
     match reply {
-        Reply::Saw(Seen::Data(entry)) => Ok(entry),
+        Reply::SawData(entry) => Ok(entry),
         _ => Err(Fail::new("no data entry")),
     }
 }

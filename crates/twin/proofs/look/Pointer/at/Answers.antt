@@ -1,6 +1,6 @@
-use Rattle.std.proofs.Common.{◌≡◌, ◌%◌, refl, ap, ◌∙◌, arith, lit<}
+use Rattle.std.proofs.Common.{◌%◌, refl, ap, ◌∙◌, arith, lit<}
 use Rattle.std.proofs.lemmas.Nat.{mod_below}
-use Rattle.tlb.specs.Control.{index_of, with_index}
+use Rattle.tlb.specs.Control.{index_of}
 use Rattle.tlb.proofs.Fields.{index_put}
 use Rattle.twin.proofs.look.Pointer.at.Goals as goal
 

@@ -1,4 +1,4 @@
-use Rattle.std.proofs.Common.{◌≡◌, set, sym, ap, ◌∙◌, arith}
+use Rattle.std.proofs.Common.{sym, ap, ◌∙◌, arith}
 use Rattle.twin.proofs.Mapped.{slots_more, slots_all}
 use Rattle.twin.specs.Load.{dropped}
 use Rattle.twin.specs.Unit.{shape_by}

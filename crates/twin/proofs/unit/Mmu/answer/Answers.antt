@@ -1,4 +1,4 @@
-use Rattle.std.proofs.Common.{◌≡◌, sym, ap, ◌∙◌}
+use Rattle.std.proofs.Common.{sym, ap, ◌∙◌}
 use Rattle.tlb.specs.declared.register.Kind.TheVariants.{Instruction, Data}
 use Rattle.twin.proofs.Answering.{by_kind}
 use Rattle.twin.specs.Access.{translates}

@@ -1,5 +1,4 @@
-use Rattle.std.proofs.Common.{◌≡◌, ℕ, sym, ap, ◌∙◌}
-use Rattle.tlb.specs.declared.register.Kind.TheVariants.{Instruction, Data}
+use Rattle.std.proofs.Common.{sym, ap, ◌∙◌}
 use Rattle.twin.specs.Resolve.{loaded_unit}
 use Rattle.twin.proofs.unit.Mmu.load.Goals as goal
 

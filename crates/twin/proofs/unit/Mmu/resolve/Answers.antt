@@ -1,7 +1,6 @@
-use Rattle.std.proofs.Common.{◌≡◌, Some, None, Ok, Err, sym, ap, ◌∙◌, arith}
+use Rattle.std.proofs.Common.{◌≡◌, None, Ok, Err, sym, ap, ◌∙◌, arith}
 use Rattle.std.proofs.lemmas.Result.{err_from_is_err_and}
 use Rattle.calls.specs.Answer.{grant_answer}
-use Rattle.mmu.specs.Rights.{access_of}
 use Rattle.tlb.specs.declared.register.Kind.TheVariants.{Data}
 use Rattle.twin.proofs.Resolving.{Missing, resolve_stopped, resolve_loaded}
 use Rattle.twin.specs.Access.{missed_unit}
