@@ -9,8 +9,7 @@ top=$(cd "$(dirname "$0")/.." && pwd)
 work=$(mktemp -d)
 trap 'rm -rf "$work"' EXIT
 mkdir "$work/repo"
-(cd "$top" && tar cf - crates crates.txt examples) | (cd "$work/repo" && tar xf -)
-if [ -d "$top/target" ]; then cp -r "$top/target" "$work/repo/target"; fi
+(cd "$top" && tar cf - --exclude=out crates crates.txt examples) | (cd "$work/repo" && tar xf -)
 rm -rf "$work"/repo/crates/*/must-fail
 crates=${*:-$(ls "$top/tools/planted")}
 for crate in $crates; do cp -r "$top/tools/planted/$crate" "$work/repo/crates/$crate/must-fail"; done
@@ -18,7 +17,7 @@ cd "$work/repo" || exit 2
 # shellcheck disable=SC2086
 rt must-fail $crates >"$work/log" 2>&1
 
-# Whether the program, with a bug that the prover cannot see, still prints every account.
+# Whether a program, with a bug that the prover cannot see, still prints every account.
 prints_accounts() {
     cp -r "$work/repo" "$work/one"
     edit=$work/one/crates/$1/must-fail/$2.edit
@@ -32,9 +31,12 @@ open(path, "w").write(text.replace(old, new))
 PYTHON
     rm -rf "$work"/one/crates/*/must-fail
     same=0
-    (cd "$work/one" && rt check bench) >/dev/null 2>&1 || same=1
-    for script in "$work"/one/examples/*.script; do
-        "$work/one/target/bin/bench" <"$script" | cmp -s - "${script%.script}.account" || same=1
+    for program in bench twin_bench; do
+        (cd "$work/one/crates/$program" && rt run </dev/null) >/dev/null 2>&1 || same=1
+        case $program in bench) scripts=$work/one/examples ;; *) scripts=$work/one/examples/twin ;; esac
+        for script in "$scripts"/*.script; do
+            "$work/one/crates/$program/out/$program" <"$script" | cmp -s - "${script%.script}.account" || same=1
+        done
     done
     rm -rf "$work/one"
     return $same
@@ -45,8 +47,8 @@ survived=0
 for crate in $crates; do
     for edit in "$top/tools/planted/$crate"/*.edit; do
         label=$(basename "$edit" .edit)
-        if grep -q "must-fail $crate/$label: refused" "$work/log"; then
-            by="the proof ($(sed -n "s/.*must-fail $crate\/$label: refused.*(first at \([^;]*\);.*/\1/p" "$work/log"))"
+        if grep -q "must-fail $crate/$label.edit: refused" "$work/log"; then
+            by="the proof: $(sed -n "s/.*must-fail $crate\/$label.edit: refused, as it must be: \(.*\)/\1/p" "$work/log" | head -n 1 | cut -c1-120)"
             killed=$((killed + 1))
         elif prints_accounts "$crate" "$label"; then
             by=

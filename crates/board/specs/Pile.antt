@@ -4,7 +4,8 @@ use Rattle.board.specs.declared.bus.BusFault.{BusFault}
 use Rattle.board.specs.Bytes.{with_word}
 
 -- every byte that a memory was lent: those of one make, with the name of the reference that lent them, or those of a
--- bank's two memories. The name is a number of the logic; that it stays says that the bytes are the lender's own
+-- bank's two memories. The name is a number of the logic, 0 for bytes lent for reading alone; that it stays says that the
+-- bytes are the lender's own
 pub data Pile : Type 0 where
   Lent : ℕ → List ℕ → Pile
   Both : Pile → Pile → Pile
