@@ -113,6 +113,7 @@ impl<'a, M: Memory> Twin<'a, M> {
             },
         }
     }
+
     // The unit as it is left. The memory goes back to its lender.
     pub fn end(self) -> Mmu
         ensures unit { result ≡ self.entry.unit }
