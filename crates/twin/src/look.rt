@@ -2,8 +2,8 @@
 ghost use Rattle.std.specs.Prelude.{◌≡◌, ◌%◌, ◌<◌, length};
 ghost use Rattle.tlb.specs.Control.{index_of};
 ghost use Rattle.tlb.specs.Entry.{entry_of};
-ghost use Rattle.twin.specs.Call.{look_kind};
-ghost use Rattle.twin.specs.Look.{slot_seen, look_result};
+ghost use Rattle.twin.specs.Call.{look_kind, look_reply};
+ghost use Rattle.twin.specs.Look.{slot_seen, look_as_reply};
 
 use crate::unit::{Half, Mmu};
 use calls::fault::Fault;
@@ -80,7 +80,7 @@ impl<P: Page> Half<P> {
 impl Mmu {
     // The entry in a slot of a kind: 0 instruction, 1 data.
     pub fn look(&mut self, kind: u32, slot: u32) -> Result<Seen, Fault>
-        ensures seen { result ≡ look_result (look_kind kind) kind slot self.old }
+        ensures seen { look_as_reply result ≡ look_reply (look_kind kind) kind slot self.old }
         ensures back { self.new ≡ self.old }
     {
         match kind {
