@@ -12,7 +12,9 @@ use Rattle.tlb.specs.declared.register.Kind.{Kind}
 use Rattle.tlb.specs.declared.register.Kind.TheVariants.{Instruction, Data}
 use Rattle.twin.specs.Access.{answer_of, found_answer, translated_answer, access_answer, slot_found}
 use Rattle.twin.specs.Access.{missed_unit}
-use Rattle.twin.specs.Resolve.{Walked, StoppedFirst, StoppedSecond, Passed, from_first, behind_first, walked, walk_result, walk_unit, resolve_missed, resolve_walked, resolve_found, resolved, resolve_of, ResultOf}
+use Rattle.twin.specs.Call.{Outcome, resolve_outcome}
+use Rattle.twin.specs.declared.request.Reply.TheVariants as replies
+use Rattle.twin.specs.Resolve.{Walked, StoppedFirst, StoppedSecond, Passed, from_first, behind_first, walked, walk_result, walk_unit, resolve_missed, resolve_walked, resolve_found, resolved, ResultOf}
 use Rattle.twin.specs.Access.{translates}
 use Rattle.twin.specs.Unit.{shape, half, space, zero_entry}
 use Rattle.twin.specs.declared.unit.Mmu.{Mmu}
@@ -70,6 +72,11 @@ pub record Resolves (r : ResultOf) (a : Answer) (u : Mmu) : Type 0 where
   pub answer : a ≡ r.answer
   pub left : u ≡ r.unit
 
+-- and as a call it comes to this
+pub record ResolvesTo (o : Outcome) (a : Answer) (u : Mmu) : Type 0 where
+  pub answer : replies.Answer a ≡ o.reply
+  pub left : u ≡ o.unit
+
 stops_at : (k : Kind) (o : Walked) (a : Access) (e : ℕ) (u : Mmu) (f : Fault) → Err f ≡ walk_result o → Resolves (resolve_walked k o a e u) (Refused f) (walk_unit k o u)
 stops_at k (StoppedFirst g) a e u f h = let same : f ≡ g = cc in record { answer = ap Refused same; left = refl }
 stops_at k (StoppedSecond w g) a e u f h = let same : f ≡ g = cc in record { answer = ap Refused same; left = refl }
@@ -126,11 +133,11 @@ module _ (n : ℕ) (m : Meaning) (u w : Mmu) (a : Access) (k : Kind) (e : ℕ) (
   same_told : (b : Result (Unit {0}) Fault) → b ≡ walk_result (walked m w.twb e) → b ≡ walk_result (walked m (resolve_missed (kind_of a) e u).twb e)
   same_told b h = h ∙ ap (λ x. walk_result (walked m x.twb e)) same_unit
 
-  by_number : (b : Answer) (v : Mmu) → Resolves (resolved (translates (kind_of a) u.mode) (kind_of a) m a e u) b v → Resolves (resolve_of (access_of n) n e m u) b v
-  by_number b v h = record { answer = h.answer ∙ ap (λ o. (resolve_of o n e m u).answer) (sym r.number); left = h.left ∙ ap (λ o. (resolve_of o n e m u).unit) (sym r.number) }
+  by_number : (b : Answer) (v : Mmu) → Resolves (resolved (translates (kind_of a) u.mode) (kind_of a) m a e u) b v → ResolvesTo (resolve_outcome (access_of n) n e u m) b v
+  by_number b v h = record { answer = ap replies.Answer h.answer ∙ ap (λ o. (resolve_outcome o n e u m).reply) (sym r.number); left = h.left ∙ ap (λ o. (resolve_outcome o n e u m).unit) (sym r.number) }
 
-  pub resolve_stopped : (f : Fault) (v : Mmu) → Err f ≡ walk_result (walked m w.twb e) → v ≡ walk_unit k (walked m w.twb e) w → Resolves (resolve_of (access_of n) n e m u) (Refused f) v
+  pub resolve_stopped : (f : Fault) (v : Mmu) → Err f ≡ walk_result (walked m w.twb e) → v ≡ walk_unit k (walked m w.twb e) w → ResolvesTo (resolve_outcome (access_of n) n e u m) (Refused f) v
   resolve_stopped f v h l = by_number (Refused f) v (stopped (kind_of a) m u a e r.missed f v (same_told (Err f) h) (same_walk v l))
 
-  pub resolve_loaded : (b : Answer) (v : Mmu) → Ok tt ≡ walk_result (walked m w.twb e) → v ≡ walk_unit k (walked m w.twb e) w → b ≡ access_answer (translates (kind_of a) v.mode) (kind_of a) v a e → Resolves (resolve_of (access_of n) n e m u) b v
+  pub resolve_loaded : (b : Answer) (v : Mmu) → Ok tt ≡ walk_result (walked m w.twb e) → v ≡ walk_unit k (walked m w.twb e) w → b ≡ access_answer (translates (kind_of a) v.mode) (kind_of a) v a e → ResolvesTo (resolve_outcome (access_of n) n e u m) b v
   resolve_loaded b v h l is = by_number b v (loaded (kind_of a) m u a e r.missed b v (same_told (Ok tt) h) (same_walk v l) is)

@@ -106,7 +106,3 @@ unless None kept made = made
 abbrev pub write_unit : Option Register → ℕ → Mmu → Mmu
 write_unit None w u = u
 write_unit (Some r) w u = unless (misused r w) u (register_written r w u)
-
-abbrev pub read_result : Option Register → ℕ → Mmu → Result ℕ Fault
-read_result None n u = Err (Misused NoRegister n)
-read_result (Some r) n u = Ok (register_read r u)

@@ -104,8 +104,3 @@ abbrev pub walk_unit : Kind → Walked → Mmu → Mmu
 walk_unit k (StoppedFirst f) u = u
 walk_unit k (StoppedSecond first f) u = first_written k first u
 walk_unit k (Passed first second) u = loaded_unit k second (first_written k first u)
-
--- a resolve by its number, which is tested first
-abbrev pub resolve_of : Option Access → ℕ → ℕ → Meaning → Mmu → ResultOf
-resolve_of None n e m u = record { answer = Refused (NoKind n); unit = u; events = none }
-resolve_of (Some a) n e m u = resolved (translates (kind_of a) u.mode) (kind_of a) m a e u

@@ -1,8 +1,9 @@
 // Register reads and writes.
 ghost use Rattle.std.specs.Prelude.{◌≡◌};
 ghost use Rattle.tlb.specs.Register.{register_at};
-ghost use Rattle.twin.specs.Call.{with_mode};
-ghost use Rattle.twin.specs.Registers.{register_read, kept_written, checked, write_result, write_unit, read_result};
+ghost use Rattle.calls.specs.Answer.{value_answer};
+ghost use Rattle.twin.specs.Call.{read_answer, with_mode};
+ghost use Rattle.twin.specs.Registers.{register_read, kept_written, checked, write_result, write_unit};
 
 use crate::unit::{Mmu, Mode};
 use calls::fault::{Fault, Misuse};
@@ -75,7 +76,7 @@ impl Mmu {
 
     // Reads the register of that number.
     pub fn read(&self, number: u32) -> Result<u32, Fault>
-        ensures { result ≡ read_result (register_at number) number self.now }
+        ensures { value_answer result ≡ read_answer (register_at number) number self.now }
     {
         match Register::numbered(number) {
             Some(register) => Ok(self.get(register)),

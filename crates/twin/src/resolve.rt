@@ -2,7 +2,9 @@
 ghost use Rattle.std.specs.Prelude.{◌≡◌};
 ghost use Rattle.calls.specs.Answer.{grant_answer};
 ghost use Rattle.mmu.specs.Rights.{access_of};
-ghost use Rattle.twin.specs.Resolve.{walked, first_written, walk_result, walk_unit, resolve_of};
+ghost use Rattle.twin.specs.Call.{resolve_outcome};
+ghost use Rattle.twin.specs.declared.request.Reply.TheVariants as replies;
+ghost use Rattle.twin.specs.Resolve.{walked, first_written, walk_result, walk_unit};
 
 use crate::unit::Mmu;
 use board::memory::Memory;
@@ -43,8 +45,8 @@ impl Mmu {
         kind: u32,
         address: u32,
     ) -> Result<Option<Grant>, Fault>
-        ensures answer { grant_answer result ≡ (resolve_of (access_of kind) kind address (M.Memory.meaning memory.now) self.old).answer }
-        ensures left { self.new ≡ (resolve_of (access_of kind) kind address (M.Memory.meaning memory.now) self.old).unit }
+        ensures answer { replies.Answer (grant_answer result) ≡ (resolve_outcome (access_of kind) kind address self.old (M.Memory.meaning memory.now)).reply }
+        ensures left { self.new ≡ (resolve_outcome (access_of kind) kind address self.old (M.Memory.meaning memory.now)).unit }
     {
         let access = Access::numbered(kind).ok_or(Fault::NoKind { kind })?;
         let found = self.answer(access, address)?;

@@ -4,6 +4,7 @@ use Rattle.calls.specs.Answer.{grant_answer}
 use Rattle.tlb.specs.declared.register.Kind.TheVariants.{Data}
 use Rattle.twin.proofs.Resolving.{Missing, resolve_stopped, resolve_loaded}
 use Rattle.twin.specs.Access.{missed_unit}
+use Rattle.twin.specs.declared.request.Reply.TheVariants as replies
 use Rattle.twin.proofs.unit.Mmu.resolve.Given as given
 use Rattle.twin.proofs.unit.Mmu.resolve.Goals as goal
 use Rattle.twin.proofs.unit.Mmu.resolve.Goals.{After-walk}
@@ -24,7 +25,7 @@ returns-in_err-walk g c =
     let exit = err_from_is_err_and c.from_residual-in_err-walk.result c.from_residual-in_err-walk.ensures.1 in
     let walk = c.in_err-walk.ensures in
     let r = resolve_stopped _ _ _ _ _ _ _ (missing g (goal.at.returns-in_err-walk g c).After-walk) _ _ walk.answer walk.left in
-    record { answer = ap grant_answer (exit.1 ∙ ap Err exit.2) ∙ r.answer; left = r.left }
+    record { answer = ap (λ x. replies.Answer (grant_answer x)) (exit.1 ∙ ap Err exit.2) ∙ r.answer; left = r.left }
 
 pub returns : goal.returns
 returns g c =
