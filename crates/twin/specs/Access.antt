@@ -4,8 +4,6 @@ use Rattle.calls.specs.declared.answer.Answer.{Answer}
 use Rattle.calls.specs.declared.answer.Answer.TheVariants.{Miss, Granted, Refused}
 use Rattle.calls.specs.declared.answer.Grant.{Grant}
 use Rattle.calls.specs.declared.fault.Fault.{Fault}
-use Rattle.calls.specs.declared.fault.Fault.TheVariants.{NoKind}
-use Rattle.mmu.specs.Rights.{kind_of}
 use Rattle.mmu.specs.Verdict.{gives, through_for}
 use Rattle.mmu.specs.declared.rights.Access.{Access}
 use Rattle.mmu.specs.declared.rights.Protection.{Protection}
@@ -79,12 +77,3 @@ access_left true k u e = found_left k (slot_found (shape k) (half k u) e (space 
 abbrev pub half_answer : {P : Type 0} → Shape P → Half P → Bool → Bool → ℕ → Access → ℕ → Answer
 half_answer s h false problem current a e = Granted (plain_grant h a e)
 half_answer s h true problem current a e = found_answer s h (entry_of s.made 0 0 0) (slot_found s h e current) problem a e
-
--- an access by its number, which is tested first
-abbrev pub access_reply : Option Access → ℕ → ℕ → Mmu → Answer
-access_reply None n e u = Refused (NoKind n)
-access_reply (Some a) n e u = access_answer (translates (kind_of a) u.mode) (kind_of a) u a e
-
-abbrev pub access_unit : Option Access → ℕ → Mmu → Mmu
-access_unit None e u = u
-access_unit (Some a) e u = access_left (translates (kind_of a) u.mode) (kind_of a) u e

@@ -77,18 +77,6 @@ write_events Casid w u = none
 write_events Twb w u = none
 write_events Tw w u = none
 
--- a register call by its number, which is tested first
-abbrev pub refusal : Option Register → ℕ → Option Misuse
-refusal None w = Some NoRegister
-refusal (Some r) w = misused r w
-
-abbrev pub refused_by : Option Misuse → ℕ → Result (Unit {0}) Fault
-refused_by None n = Ok tt
-refused_by (Some why) n = Err (Misused why n)
-
-abbrev pub write_result : Option Register → ℕ → ℕ → Result (Unit {0}) Fault
-write_result o n w = refused_by (refusal o w) n
-
 -- the register, if it takes the word
 abbrev pub taken_by : Option Misuse → Register → ℕ → Result Register Fault
 taken_by None r n = Ok r
@@ -97,12 +85,3 @@ taken_by (Some why) r n = Err (Misused why n)
 abbrev pub checked : Option Register → ℕ → ℕ → Result Register Fault
 checked None n w = Err (Misused NoRegister n)
 checked (Some r) n w = taken_by (misused r w) r n
-
--- a refused write leaves the unit
-abbrev pub unless : {A : Type 0} → Option Misuse → A → A → A
-unless (Some why) kept made = kept
-unless None kept made = made
-
-abbrev pub write_unit : Option Register → ℕ → Mmu → Mmu
-write_unit None w u = u
-write_unit (Some r) w u = unless (misused r w) u (register_written r w u)

@@ -4,15 +4,13 @@ use Rattle.board.specs.Memory.{Meaning}
 use Rattle.calls.specs.declared.answer.Answer.{Answer}
 use Rattle.calls.specs.declared.answer.Answer.TheVariants.{Refused}
 use Rattle.calls.specs.declared.fault.Fault.{Fault}
-use Rattle.calls.specs.declared.fault.Fault.TheVariants.{NoKind}
-use Rattle.mmu.specs.Rights.{kind_of}
 use Rattle.mmu.specs.Walk.{first_word, second_word}
 use Rattle.mmu.specs.declared.rights.Access.{Access}
 use Rattle.tlb.specs.Register.{kept_bits}
 use Rattle.tlb.specs.declared.register.Kind.{Kind}
 use Rattle.tlb.specs.declared.register.Kind.TheVariants.{Instruction, Data}
 use Rattle.tlb.specs.declared.register.Register.TheVariants.{Twc}
-use Rattle.twin.specs.Access.{translates, access_answer, translated_answer, slot_found, missed_unit}
+use Rattle.twin.specs.Access.{access_answer, translated_answer, slot_found, missed_unit}
 use Rattle.twin.specs.Load.{Event, with_twc, loaded, load_event}
 use Rattle.twin.specs.Unit.{Page, shape, half, put, space}
 use Rattle.twin.specs.declared.unit.Mmu.{Mmu}

@@ -1,9 +1,12 @@
 // Accesses.
 ghost use Rattle.std.specs.Prelude.{◌≡◌};
+ghost use Rattle.board.specs.Memory.{Meaning};
 ghost use Rattle.calls.specs.Answer.{grant_answer};
+ghost use Rattle.twin.specs.Call.{access_outcome};
+ghost use Rattle.twin.specs.declared.request.Reply.TheVariants as replies;
 ghost use Rattle.mmu.specs.Rights.{access_of, kind_of};
 ghost use Rattle.tlb.specs.Entry.{entry_of};
-ghost use Rattle.twin.specs.Access.{protection, plain_grant, slot_found, found_answer, half_answer, access_answer, access_reply, access_unit};
+ghost use Rattle.twin.specs.Access.{protection, plain_grant, slot_found, found_answer, half_answer, access_answer};
 ghost use Rattle.twin.specs.Access.{translates};
 ghost use Rattle.twin.specs.Unit.{shape_by};
 
@@ -97,8 +100,8 @@ impl Mmu {
 
     // An access: fetch (0), load (1) or store (2). No grant is a miss, which sets the kind's EPN.
     pub fn access(&mut self, kind: u32, address: u32) -> Result<Option<Grant>, Fault>
-        ensures answer { grant_answer result ≡ access_reply (access_of kind) kind address self.old }
-        ensures left { self.new ≡ access_unit (access_of kind) address self.old }
+        ensures answer { (m : Meaning) → replies.Answer (grant_answer result) ≡ (access_outcome (access_of kind) kind address self.old m).reply }
+        ensures left { (m : Meaning) → self.new ≡ (access_outcome (access_of kind) kind address self.old m).unit }
     {
         let access = Access::numbered(kind).ok_or(Fault::NoKind { kind })?;
         let grant = self.answer(access, address)?;

@@ -1,9 +1,11 @@
 // Register reads and writes.
 ghost use Rattle.std.specs.Prelude.{◌≡◌};
 ghost use Rattle.tlb.specs.Register.{register_at};
-ghost use Rattle.calls.specs.Answer.{value_answer};
-ghost use Rattle.twin.specs.Call.{read_answer, with_mode};
-ghost use Rattle.twin.specs.Registers.{register_read, kept_written, checked, write_result, write_unit};
+ghost use Rattle.board.specs.Memory.{Meaning};
+ghost use Rattle.calls.specs.Answer.{done_answer, value_answer};
+ghost use Rattle.twin.specs.Call.{read_answer, write_outcome, with_mode};
+ghost use Rattle.twin.specs.declared.request.Reply.TheVariants as replies;
+ghost use Rattle.twin.specs.Registers.{register_read, kept_written, checked};
 
 use crate::unit::{Mmu, Mode};
 use calls::fault::{Fault, Misuse};
@@ -89,8 +91,8 @@ impl Mmu {
 
     // Writes the register of that number. A refused write changes nothing; that of an RPN loads.
     pub fn write(&mut self, number: u32, word: u32) -> Result<(), Fault>
-        ensures answer { result ≡ write_result (register_at number) number word }
-        ensures left { self.new ≡ write_unit (register_at number) word self.old }
+        ensures answer { (m : Meaning) → replies.Answer (done_answer result) ≡ (write_outcome (register_at number) number word self.old m).reply }
+        ensures left { (m : Meaning) → self.new ≡ (write_outcome (register_at number) number word self.old m).unit }
     {
         let register = check(number, word)?;
         self.set(register, register.keep(word));
