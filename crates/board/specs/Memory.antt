@@ -16,6 +16,10 @@ aligned a = a % 4 == 0
 abbrev pub refuse : {T : Type 0} → Refusal → ℕ → Result T BusFault
 refuse why a = Err (record { refusal = why; address = a })
 
+-- the test of an address alone
+abbrev pub alignment : ℕ → Result (Unit {0}) BusFault
+alignment a = cond (aligned a) (Ok tt) (refuse Misaligned a)
+
 -- a peek's answer: refused where misaligned, then where there is no word
 abbrev pub peeked : Meaning → ℕ → Result ℕ BusFault
 peeked m a = cond (aligned a) (ok_or (m.word a) (record { refusal = NoWord; address = a })) (refuse Misaligned a)

@@ -22,18 +22,6 @@ pub struct Bank<A, B> {
     second: B,
 }
 
-// The address that the first memory is asked for, or none where the second is asked.
-fn pick(base: u32, mask: u32, address: u32) -> Option<u32>
-    ensures { result ≡ picked base mask address }
-{
-    let mask = mask & KEPT;
-    if address & mask == base & mask {
-        Some(address & !mask)
-    } else {
-        None
-    }
-}
-
 // Stores to a memory behind a protect flag.
 fn poke_shielded<M: Memory>(
     memory: &mut M,
@@ -67,6 +55,18 @@ impl<A, B> Bank<A, B> {
             second,
         }
     }
+
+    // The address that the first memory is asked for, or none where the second is asked.
+    fn pick(&self, address: u32) -> Option<u32>
+        ensures { result ≡ picked self.now.base self.now.mask address }
+    {
+        let mask = self.mask & KEPT;
+        if address & mask == self.base & mask {
+            Some(address & !mask)
+        } else {
+            None
+        }
+    }
 }
 
 impl<A: Memory, B: Memory> Memory for Bank<A, B> {
@@ -79,14 +79,14 @@ impl<A: Memory, B: Memory> Memory for Bank<A, B> {
     ghost place = { λ b. routed_place b.base b.mask (A.Memory.place b.first) (B.Memory.place b.second) };
 
     fn peek(&self, address: u32) -> Result<u32, BusFault> {
-        match pick(self.base, self.mask, address) {
+        match self.pick(address) {
             Some(inner) => bus::relocated(self.first.peek(inner), address),
             None => self.second.peek(address),
         }
     }
 
     fn poke(&mut self, address: u32, word: u32) -> Result<(), BusFault> {
-        match pick(self.base, self.mask, address) {
+        match self.pick(address) {
             Some(inner) => {
                 let answer = poke_shielded(&mut self.first, self.protect, inner, word);
                 bus::relocated(answer, address)

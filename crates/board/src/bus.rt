@@ -24,8 +24,5 @@ pub struct BusFault {
 pub fn relocated<T>(answer: Result<T, BusFault>, address: u32) -> Result<T, BusFault>
     ensures { result ≡ at_place answer address }
 {
-    match answer {
-        Ok(value) => Ok(value),
-        Err(BusFault { refusal, .. }) => Err(BusFault { refusal, address }),
-    }
+    answer.map_err(|fault| BusFault { address, ..fault })
 }

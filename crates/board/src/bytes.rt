@@ -1,21 +1,30 @@
 // Words in bytes, the highest byte first.
 ghost use Rattle.std.specs.Prelude.{◌≡◌, ◌+◌, ◌≤◌, length, IfOk};
 ghost use Rattle.board.specs.Bytes.{placed};
-ghost use Rattle.board.specs.Memory.{peeked};
+ghost use Rattle.board.specs.Memory.{alignment, peeked};
 ghost use Rattle.board.specs.Rom.{rom};
 
 use crate::bus::{BusFault, Refusal};
+
+// Whether an address may be a word's: it is a multiple of 4.
+pub(crate) fn align(address: u32) -> Result<(), BusFault>
+    ensures { result ≡ alignment address }
+{
+    if address % 4 == 0 {
+        Ok(())
+    } else {
+        let refusal = Refusal::Misaligned;
+        Err(BusFault { refusal, address })
+    }
+}
 
 // The index of the first byte of the word at `address`, where there are `len` bytes.
 pub(crate) fn place(len: usize, address: u32) -> Result<usize, BusFault>
     ensures value { result ≡ placed len address }
     ensures within { IfOk result (λ at. at + 4 ≤ len) }
 {
+    align(address)?;
     let at = address as usize;
-    if address % 4 != 0 {
-        let refusal = Refusal::Misaligned;
-        return Err(BusFault { refusal, address });
-    }
     if at + 4 <= len {
         Ok(at)
     } else {

@@ -51,10 +51,7 @@ impl<'a> Memory for Ram<'a> {
     {
         let at = bytes::place(self.bytes.len(), address)?;
         let holder = word.to_be_bytes();
-        self.bytes[at] = holder[0];
-        self.bytes[at + 1] = holder[1];
-        self.bytes[at + 2] = holder[2];
-        self.bytes[at + 3] = holder[3];
+        self.bytes[at..at + 4].copy_from_slice(&holder);
         Ok(())
     }
 }

@@ -4,6 +4,7 @@ ghost use Rattle.board.specs.Pile.{Lent, Here};
 ghost use Rattle.board.specs.Void.{void};
 
 use crate::bus::{BusFault, Refusal};
+use crate::bytes;
 use crate::memory::Memory;
 
 // A memory without words.
@@ -21,16 +22,12 @@ impl Memory for Void {
     ghost place = { λ _. Here };
 
     fn peek(&self, address: u32) -> Result<u32, BusFault> {
-        let refusal = if address % 4 == 0 {
-            Refusal::NoWord
-        } else {
-            Refusal::Misaligned
-        };
+        bytes::align(address)?;
+        let refusal = Refusal::NoWord;
         Err(BusFault { refusal, address })
     }
 
     fn poke(&mut self, address: u32, _word: u32) -> Result<(), BusFault> {
-        self.peek(address)?;
-        Ok(())
+        self.peek(address).map(|_word| ())
     }
 }
