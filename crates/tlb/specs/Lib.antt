@@ -4,3 +4,4 @@ pub mod Entry
 pub mod Page
 pub mod Register
 pub mod Search
+pub mod Shape

@@ -1,6 +1,7 @@
 -- The registers: numbers and kept bits. Assumes nothing.
 use Rattle.std.specs.Prelude.{◌≡◌, ℕ, cond, List, [], ◌∷◌, Some, None, Option, ◌==◌}
 use Rattle.tlb.specs.Bits.{field}
+use Rattle.tlb.specs.declared.register.Kind.{Kind}
 use Rattle.tlb.specs.declared.register.Kind.TheVariants.{Instruction, Data}
 use Rattle.tlb.specs.declared.register.Register.{Register}
 use Rattle.tlb.specs.declared.register.Register.TheVariants.{Ctr, Ap, Epn, Twc, Rpn, Casid, Twb, Tw}
@@ -16,6 +17,10 @@ kept_bits (Rpn k) = 0xffffffff
 kept_bits Casid = 0x0000000f
 kept_bits Twb = 0xfffff000
 kept_bits Tw = 0xffffffff
+
+-- the kind of that number, if there is one
+abbrev pub kind_at : ℕ → Option Kind
+kind_at n = cond (n == 0) (Some Instruction) (cond (n == 1) (Some Data) None)
 
 -- the register of that number, if there is one
 abbrev pub register_at : ℕ → Option Register

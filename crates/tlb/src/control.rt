@@ -80,13 +80,8 @@ impl Control {
 pub fn next_index(index: u8, reserved: bool) -> u8
     ensures { result ≡ next_index reserved index }
 {
-    let index = u16::from(index);
-    let next = if reserved {
-        (index + 27) % 28
-    } else {
-        (index + 31) % 32
-    };
-    next as u8
+    let slots = if reserved { 28 } else { 32 };
+    ((u16::from(index) + slots - 1) % slots) as u8
 }
 
 // The code of an access protection group: two bits of the word of MI_AP or MD_AP. Groups count modulo 16.

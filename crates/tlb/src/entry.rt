@@ -5,6 +5,7 @@ ghost use Rattle.tlb.specs.Entry.{entry_of, matched};
 use crate::bits::{bit, bits};
 use crate::page::Page;
 use crate::search::Matching;
+use crate::source::Source;
 
 // One slot's entry; its page is of the slot's kind.
 #[derive(Clone, Copy)]
@@ -16,27 +17,31 @@ pub struct Entry<P> {
 }
 
 impl<P: Page> Entry<P> {
-    // The entry that EPN, TWC and RPN make.
-    pub fn made(epn: u32, twc: u32, rpn: u32) -> Entry<P>
-        ensures { result ≡ entry_of P.Page.makes epn twc rpn }
+    // The entry that is loaded from these words.
+    pub fn made(source: Source) -> Entry<P>
+        ensures { result ≡ entry_of P.Page.shape.made source.epn source.twc source.rpn }
     {
         Entry {
-            live: bit(epn, 22),
-            space: bits(epn, 28, 31),
-            page: P::made(epn, twc, rpn),
+            live: bit(source.epn, 22),
+            space: bits(source.epn, 28, 31),
+            page: P::made(source),
         }
     }
 
     // The entry as if filled from zeros, as every slot has it at first.
     pub fn zero() -> Entry<P>
-        ensures { result ≡ entry_of P.Page.makes 0 0 0 }
+        ensures { result ≡ entry_of P.Page.shape.made 0 0 0 }
     {
-        Entry::made(0, 0, 0)
+        Entry::made(Source {
+            epn: 0,
+            twc: 0,
+            rpn: 0,
+        })
     }
 }
 
 impl<P: Page> Matching for Entry<P> {
-    ghost answers = { λ e a s. matched e.live e.space (P.Page.body e.page) a s };
+    ghost answers = { λ e a s. matched e.live e.space (P.Page.shape.body e.page) a s };
 
     fn matches(&self, address: u32, space: u32) -> bool {
         let page = self.page.common();

@@ -8,3 +8,4 @@ pub mod entry;
 pub mod page;
 pub mod register;
 pub mod search;
+pub mod source;

@@ -1,10 +1,11 @@
 // Pages.
-ghost use Rattle.std.specs.Prelude.{◌≡◌, ℕ, ◌<◌, Bool, true, false, ◌&&◌};
+ghost use Rattle.std.specs.Prelude.{◌≡◌, ◌<◌, ◌&&◌};
 ghost use Rattle.tlb.specs.Bits.{flag};
-ghost use Rattle.tlb.specs.Page.{offset_bits, bytes_in, size_of, common_of, instruction_page, data_page, contains, physical};
-ghost use Rattle.tlb.specs.declared.page.Common.{Common};
+ghost use Rattle.tlb.specs.Page.{offset_bits, bytes_in, size_of, common_of, contains, physical};
+ghost use Rattle.tlb.specs.Shape.{Shape, instruction_shape, data_shape};
 
 use crate::bits::{bit, bits, clear_low};
+use crate::source::Source;
 
 #[derive(Clone, Copy, Debug, PartialEq, Eq)]
 pub enum Size {
@@ -32,19 +33,18 @@ impl Size {
         ensures value { result ≡ bytes_in self }
         ensures some { 0 < result }
     {
-        match self {
-            Size::Kb4 => 0x1000,
-            Size::Kb16 => 0x4000,
-            Size::Kb512 => 0x8_0000,
-            Size::Mb8 => 0x80_0000,
-        }
+        1 << self.offset_bits()
     }
 
     // The size that TWC and RPN give.
-    fn of(twc: u32, rpn: u32) -> Size
-        ensures { result ≡ size_of twc rpn }
+    fn of(source: Source) -> Size
+        ensures { result ≡ size_of source.twc source.rpn }
     {
-        match (bit(twc, 29), bit(twc, 28), bit(rpn, 28)) {
+        match (
+            bit(source.twc, 29),
+            bit(source.twc, 28),
+            bit(source.rpn, 28),
+        ) {
             (true, true, _) => Size::Mb8,
             (true, false, _) => Size::Kb512,
             (false, _, true) => Size::Kb16,
@@ -86,17 +86,18 @@ pub struct DataPage {
 }
 
 // Whether both words of a page are valid.
-fn both_valid(twc: u32, rpn: u32) -> bool
-    ensures { result ≡ (flag 31 twc && flag 31 rpn) }
+fn both_valid(source: Source) -> bool
+    ensures { result ≡ (flag 31 source.twc && flag 31 source.rpn) }
 {
-    bit(twc, 31) && bit(rpn, 31)
+    bit(source.twc, 31) && bit(source.rpn, 31)
 }
 
 impl Common {
-    fn of(epn: u32, twc: u32, rpn: u32) -> Common
-        ensures { result ≡ common_of epn twc rpn }
+    fn of(source: Source) -> Common
+        ensures { result ≡ common_of source.epn source.twc source.rpn }
     {
-        let size = Size::of(twc, rpn);
+        let Source { epn, twc, rpn } = source;
+        let size = Size::of(source);
         let offset = size.offset_bits();
         Common {
             size,
@@ -107,7 +108,7 @@ impl Common {
             rights: bits(rpn, 20, 22),
             shared: bit(rpn, 29),
             cache_inhibit: bit(rpn, 30),
-            valid: both_valid(twc, rpn),
+            valid: both_valid(source),
         }
     }
 
@@ -130,41 +131,27 @@ impl Common {
 
 // What is asked of either kind of page.
 pub trait Page: Copy {
-    // the page that EPN, TWC and RPN make
-    ghost makes: { ℕ → ℕ → ℕ → Self };
+    // how a page of this kind is made, and what is read of it
+    ghost shape: { Shape Self };
 
-    // what both kinds have
-    ghost body: { Self → Common };
-
-    // write-through and changed; a page for fetches is never stored to, so it counts as changed
-    ghost through: { Self → Bool };
-
-    ghost marked: { Self → Bool };
-
-    fn made(epn: u32, twc: u32, rpn: u32) -> Self
-        ensures { result ≡ makes epn twc rpn };
+    fn made(source: Source) -> Self
+        ensures { result ≡ shape.made source.epn source.twc source.rpn };
 
     fn common(&self) -> Common
-        ensures { result ≡ body self.now };
+        ensures { result ≡ shape.body self.now };
 
     fn write_through(&self) -> bool
-        ensures { result ≡ through self.now };
+        ensures { result ≡ shape.through self.now };
 
     fn changed(&self) -> bool
-        ensures { result ≡ marked self.now };
+        ensures { result ≡ shape.changed self.now };
 }
 
 impl Page for InstructionPage {
-    ghost makes = { instruction_page };
+    ghost shape = { instruction_shape };
 
-    ghost body = { λ p. p.common };
-
-    ghost through = { λ _. false };
-
-    ghost marked = { λ _. true };
-
-    fn made(epn: u32, twc: u32, rpn: u32) -> InstructionPage {
-        let common = Common::of(epn, twc, rpn);
+    fn made(source: Source) -> InstructionPage {
+        let common = Common::of(source);
         InstructionPage { common }
     }
 
@@ -182,18 +169,12 @@ impl Page for InstructionPage {
 }
 
 impl Page for DataPage {
-    ghost makes = { data_page };
+    ghost shape = { data_shape };
 
-    ghost body = { λ p. p.common };
-
-    ghost through = { λ p. p.write_through };
-
-    ghost marked = { λ p. p.changed };
-
-    fn made(epn: u32, twc: u32, rpn: u32) -> DataPage {
-        let common = Common::of(epn, twc, rpn);
-        let write_through = bit(twc, 30);
-        let changed = bit(rpn, 23);
+    fn made(source: Source) -> DataPage {
+        let common = Common::of(source);
+        let write_through = bit(source.twc, 30);
+        let changed = bit(source.rpn, 23);
         DataPage {
             common,
             write_through,

@@ -1,6 +1,12 @@
 // The registers of the unit.
 ghost use Rattle.std.specs.Prelude.{◌≡◌, bit_and};
-ghost use Rattle.tlb.specs.Register.{kept_bits, register_at, fields_of, Agree};
+ghost use Rattle.std.specs.Option.{ok_or};
+ghost use Rattle.calls.specs.declared.fault.Fault.TheVariants as faults;
+ghost use Rattle.calls.specs.declared.fault.Fault.TheVariants.{NoKind};
+ghost use Rattle.calls.specs.declared.fault.Misuse.TheVariants.{NoRegister};
+ghost use Rattle.tlb.specs.Register.{kind_at, kept_bits, register_at, fields_of, Agree};
+
+use calls::fault::{Fault, Misuse};
 
 // The two kinds: instruction (MI, for fetches) and data (MD, for loads and stores).
 #[derive(Clone, Copy, Debug, PartialEq, Eq)]
@@ -30,29 +36,51 @@ pub enum Register {
     Tw,
 }
 
-impl Register {
-    // The register of that number.
-    pub fn numbered(number: u32) -> Option<Register>
-        ensures { result ≡ register_at number }
-    {
-        match number {
-            784 => Some(Register::Ctr(Kind::Instruction)),
-            786 => Some(Register::Ap(Kind::Instruction)),
-            787 => Some(Register::Epn(Kind::Instruction)),
-            789 => Some(Register::Twc(Kind::Instruction)),
-            790 => Some(Register::Rpn(Kind::Instruction)),
-            792 => Some(Register::Ctr(Kind::Data)),
-            793 => Some(Register::Casid),
-            794 => Some(Register::Ap(Kind::Data)),
-            795 => Some(Register::Epn(Kind::Data)),
-            796 => Some(Register::Twb),
-            797 => Some(Register::Twc(Kind::Data)),
-            798 => Some(Register::Rpn(Kind::Data)),
-            799 => Some(Register::Tw),
-            _ => None,
+// The kind of that number.
+impl TryFrom<u32> for Kind {
+    type Error = Fault;
+
+    ghost try_from_gives = { λ n r. r ≡ ok_or (kind_at n) (NoKind n) };
+
+    fn try_from(kind: u32) -> Result<Kind, Fault> {
+        match kind {
+            0 => Ok(Kind::Instruction),
+            1 => Ok(Kind::Data),
+            _ => Err(Fault::NoKind { kind }),
         }
     }
+}
 
+// The register of that number.
+impl TryFrom<u32> for Register {
+    type Error = Fault;
+
+    ghost try_from_gives = { λ n r. r ≡ ok_or (register_at n) (faults.Register NoRegister n) };
+
+    fn try_from(number: u32) -> Result<Register, Fault> {
+        match number {
+            784 => Ok(Register::Ctr(Kind::Instruction)),
+            786 => Ok(Register::Ap(Kind::Instruction)),
+            787 => Ok(Register::Epn(Kind::Instruction)),
+            789 => Ok(Register::Twc(Kind::Instruction)),
+            790 => Ok(Register::Rpn(Kind::Instruction)),
+            792 => Ok(Register::Ctr(Kind::Data)),
+            793 => Ok(Register::Casid),
+            794 => Ok(Register::Ap(Kind::Data)),
+            795 => Ok(Register::Epn(Kind::Data)),
+            796 => Ok(Register::Twb),
+            797 => Ok(Register::Twc(Kind::Data)),
+            798 => Ok(Register::Rpn(Kind::Data)),
+            799 => Ok(Register::Tw),
+            _ => Err(Fault::Register {
+                misuse: Misuse::NoRegister,
+                register: number,
+            }),
+        }
+    }
+}
+
+impl Register {
     // The bits that a write keeps.
     pub fn kept(self) -> u32
         ensures { result ≡ kept_bits self }

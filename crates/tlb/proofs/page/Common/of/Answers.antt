@@ -8,8 +8,8 @@ unfolding common_of
 returns c =
     let size = c.of-size.ensures in
     let offset = c.offset_bits-offset.ensures.value ∙ ap offset_bits size in
-    let first = c.clear_low.ensures ∙ ap (λ k. cleared k c.args.epn) offset in
-    let base = c.clear_low-2.ensures ∙ ap (λ k. cleared k c.args.rpn) offset in
+    let first = c.clear_low.ensures ∙ ap (λ k. cleared k c.args.source.epn) offset in
+    let base = c.clear_low-2.ensures ∙ ap (λ k. cleared k c.args.source.rpn) offset in
     λ i. record {
       size = size i;
       first = first i;
