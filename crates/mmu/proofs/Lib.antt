@@ -1,3 +1,4 @@
 pub mod Places
 pub mod RightsTable
+pub mod Tables
 pub mod Worked

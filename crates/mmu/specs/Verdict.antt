@@ -7,6 +7,7 @@ use Rattle.calls.specs.declared.fault.Fault.{Fault}
 use Rattle.calls.specs.declared.fault.Fault.TheVariants.{Denied}
 use Rattle.tlb.specs.Page.{bytes_in, physical}
 use Rattle.mmu.specs.Rights.{allows, ruling_of}
+use Rattle.tlb.specs.Shape.{Shape}
 use Rattle.tlb.specs.declared.page.Common.{Common}
 use Rattle.mmu.specs.declared.rights.Access.{Access}
 use Rattle.mmu.specs.declared.rights.Access.TheVariants.{Fetch, Load, Store}
@@ -50,3 +51,7 @@ marked_answer (Err f) p through changed access e = Err f
 -- by what both kinds of page have, write-through and changed; by the protection settings and the privilege; for an access at e
 unfoldable pub gives : Common → Bool → Bool → Protection → Bool → Access → ℕ → Result Grant Fault
 gives p through changed s problem access e = marked_answer (permits p s problem access e) p through changed access e
+
+-- the same of a page, by the shape of its type
+abbrev pub page_gives : {P : Type 0} → Shape P → P → Protection → Bool → Access → ℕ → Result Grant Fault
+page_gives s p settings problem a e = gives (s.body p) (s.through p) (s.changed p) settings problem a e

@@ -1,31 +1,38 @@
 // Rights and access protection groups.
 ghost use Rattle.std.specs.Prelude.{◌≡◌, ◌<◌};
+ghost use Rattle.std.specs.Option.{ok_or};
+ghost use Rattle.calls.specs.declared.fault.Fault.TheVariants.{NoKind};
 ghost use Rattle.mmu.specs.Rights.{access_of, kind_of, allows, column_of, ruling_by, ruling_of};
 
+use calls::fault::Fault;
 use tlb::control::group_code;
 use tlb::register::Kind;
 
 // What is done at an address.
-#[derive(Clone, Copy)]
+#[derive(Clone, Copy, Debug, PartialEq, Eq)]
 pub enum Access {
     Fetch,
     Load,
     Store,
 }
 
-impl Access {
-    // The access of that number.
-    pub fn numbered(number: u32) -> Option<Access>
-        ensures { result ≡ access_of number }
-    {
-        match number {
-            0 => Some(Access::Fetch),
-            1 => Some(Access::Load),
-            2 => Some(Access::Store),
-            _ => None,
+// The access of that number.
+impl TryFrom<u32> for Access {
+    type Error = Fault;
+
+    ghost try_from_gives = { λ n r. r ≡ ok_or (access_of n) (NoKind n) };
+
+    fn try_from(kind: u32) -> Result<Access, Fault> {
+        match kind {
+            0 => Ok(Access::Fetch),
+            1 => Ok(Access::Load),
+            2 => Ok(Access::Store),
+            _ => Err(Fault::NoKind { kind }),
         }
     }
+}
 
+impl Access {
     // The kind that translates it.
     pub fn kind(self) -> Kind
         ensures { result ≡ kind_of self }
@@ -41,11 +48,7 @@ impl Access {
         ensures value { result ≡ column_of self }
         ensures within { result < 3 }
     {
-        match self {
-            Access::Fetch => 0,
-            Access::Load => 1,
-            Access::Store => 2,
-        }
+        self as usize
     }
 }
 
@@ -68,15 +71,19 @@ pub enum Ruling {
 }
 
 // The 48 rights, by extended bit, protection pair, privilege (privileged first) and access (fetch, load, store).
-const RIGHTS: [bool; 48] = [
-    true, true, true, false, false, false, // 0, 00
-    true, true, true, true, true, false, // 0, 01
-    true, true, true, true, true, true, // 0, 10
-    true, true, false, true, true, false, // 0, 11
-    false, false, false, false, false, false, // 1, 00
-    true, true, false, false, false, false, // 1, 01
-    false, false, false, false, false, false, // 1, 10
-    false, false, false, false, false, false, // 1, 11
+const RIGHTS: [[[[bool; 3]; 2]; 4]; 2] = [
+    [
+        [[true, true, true], [false, false, false]], // 0, 00
+        [[true, true, true], [true, true, false]], // 0, 01
+        [[true, true, true], [true, true, true]], // 0, 10
+        [[true, true, false], [true, true, false]], // 0, 11
+    ],
+    [
+        [[false, false, false], [false, false, false]], // 1, 00
+        [[true, true, false], [false, false, false]], // 1, 01
+        [[false, false, false], [false, false, false]], // 1, 10
+        [[false, false, false], [false, false, false]], // 1, 11
+    ],
 ];
 
 // Whether a page's rights allow an access.
@@ -86,7 +93,7 @@ pub fn allowed(rights: u32, problem: bool, access: Access) -> bool
     let extended = (rights % 2) as usize;
     let pair = (rights / 2 % 4) as usize;
     let key = usize::from(problem);
-    RIGHTS[extended * 24 + pair * 6 + key * 3 + access.column()]
+    RIGHTS[extended][pair][key][access.column()]
 }
 
 // What a group's code makes of an access in the group mode.

@@ -1,7 +1,8 @@
 // The verdict on a match.
 ghost use Rattle.std.specs.Prelude.{◌≡◌};
-ghost use Rattle.mmu.specs.Verdict.{permits, unmarked, through_for, gives};
+ghost use Rattle.mmu.specs.Verdict.{permits, unmarked, through_for, page_gives};
 
+use crate::attempt::Attempt;
 use crate::rights::{Access, Protection, Ruling, allowed};
 use calls::answer::Grant;
 use calls::fault::{Denial, Fault};
@@ -12,75 +13,51 @@ impl Access {
     fn unmarked(self, changed: bool) -> bool
         ensures { result ≡ unmarked self changed }
     {
-        match self {
-            Access::Fetch | Access::Load => false,
-            Access::Store => !changed,
-        }
+        matches!(self, Access::Store) && !changed
     }
 
     // The write-through that it is granted of a page's, or of the default.
     pub fn through(self, write_through: bool) -> bool
         ensures { result ≡ through_for self write_through }
     {
-        match self {
-            Access::Fetch => false,
-            Access::Load | Access::Store => write_through,
-        }
+        !matches!(self, Access::Fetch) && write_through
     }
 }
 
 // Whether a page is valid, and its group and its rights allow an access.
-fn permitted(
-    page: &Common,
-    protection: Protection,
-    problem: bool,
-    access: Access,
-    address: u32,
-) -> Result<(), Fault>
-    ensures { result ≡ permits page.now protection problem access address }
+fn permitted(page: &Common, protection: Protection, attempt: Attempt) -> Result<(), Fault>
+    ensures { result ≡ permits page.now protection attempt.problem attempt.access attempt.address }
 {
     if !page.valid {
-        let denial = Denial::Invalid;
-        return Err(Fault::Denied { denial, address });
+        return Err(attempt.denied(Denial::Invalid));
     }
-    match protection.ruling(page.group, problem) {
-        Ruling::Refuse => {
-            let denial = Denial::Group;
-            Err(Fault::Denied { denial, address })
-        }
+    match protection.ruling(page.group, attempt.problem) {
+        Ruling::Refuse => Err(attempt.denied(Denial::Group)),
         Ruling::Exempt => Ok(()),
         Ruling::Test { problem } => {
-            if allowed(page.rights, problem, access) {
+            if allowed(page.rights, problem, attempt.access) {
                 Ok(())
             } else {
-                let denial = Denial::Rights;
-                Err(Fault::Denied { denial, address })
+                Err(attempt.denied(Denial::Rights))
             }
         }
     }
 }
 
 // What a page gives to an access that matches it.
-pub fn verdict<P: Page>(
-    page: &P,
-    protection: Protection,
-    problem: bool,
-    access: Access,
-    address: u32,
-) -> Result<Grant, Fault>
-    ensures { result ≡ gives (P.Page.body page.now) (P.Page.through page.now) (P.Page.marked page.now) protection problem access address }
+pub fn verdict<P: Page>(page: &P, protection: Protection, attempt: Attempt) -> Result<Grant, Fault>
+    ensures { result ≡ page_gives P.Page.shape page.now protection attempt.problem attempt.access attempt.address }
 {
     let common = page.common();
-    permitted(&common, protection, problem, access, address)?;
-    if access.unmarked(page.changed()) {
-        let denial = Denial::Unchanged;
-        return Err(Fault::Denied { denial, address });
+    permitted(&common, protection, attempt)?;
+    if attempt.access.unmarked(page.changed()) {
+        return Err(attempt.denied(Denial::Unchanged));
     }
     Ok(Grant {
-        address: common.physical(address),
+        address: common.physical(attempt.address),
         size: common.size.bytes(),
         cache_inhibit: common.cache_inhibit,
-        write_through: access.through(page.write_through()),
+        write_through: attempt.access.through(page.write_through()),
         guarded: common.guarded,
     })
 }

@@ -1,16 +1,28 @@
 // Rights, groups and the verdict.
+use crate::entries::words;
 use calls::answer::Grant;
 use calls::fault::{Denial, Fault};
+use mmu::attempt::Attempt;
 use mmu::rights::{Access, Protection, Ruling, allowed};
 use mmu::verdict::verdict;
 use std::process::Abort;
 use tlb::page::{DataPage, InstructionPage, Page};
+use tlb::register::Kind;
 
 // Load, store and fetch, for a rights field and a privilege.
 fn row(rt: &impl Abort, rights: u32, problem: bool, load: bool, store: bool, fetch: bool) {
     assert_eq!(rt; allowed(rights, problem, Access::Load), load);
     assert_eq!(rt; allowed(rights, problem, Access::Store), store);
     assert_eq!(rt; allowed(rights, problem, Access::Fetch), fetch);
+}
+
+#[test]
+fn kinds_of_access(rt: HostRuntime) {
+    assert_eq!(rt; Access::try_from(0), Ok(Access::Fetch));
+    assert_eq!(rt; Access::try_from(2), Ok(Access::Store));
+    assert_eq!(rt; Access::try_from(3), Err(Fault::NoKind { kind: 3 }));
+    assert_eq!(rt; Access::Fetch.kind(), Kind::Instruction);
+    assert_eq!(rt; Access::Store.kind(), Kind::Data);
 }
 
 #[test]
@@ -55,6 +67,16 @@ fn group_codes(rt: HostRuntime) {
     assert_eq!(rt; domains.ruling(3, true), Ruling::Exempt);
 }
 
+// An access in space 0.
+fn attempt(access: Access, problem: bool, address: u32) -> Attempt {
+    Attempt {
+        access,
+        address,
+        problem,
+        space: 0,
+    }
+}
+
 fn denied<T>(denial: Denial, address: u32) -> Result<T, Fault> {
     Err(Fault::Denied { denial, address })
 }
@@ -70,27 +92,27 @@ fn the_order_of_tests(rt: HostRuntime) {
         group_mode: false,
         ap: 0x4000_0000,
     };
-    let invalid = DataPage::made(0x1000, 0, 0x5001);
-    let page = DataPage::made(0x1000, 1, 0x5001);
-    let shared = DataPage::made(0x1000, 1, 0x5801);
+    let invalid = DataPage::made(words(0x1000, 0, 0x5001));
+    let page = DataPage::made(words(0x1000, 1, 0x5001));
+    let shared = DataPage::made(words(0x1000, 1, 0x5801));
     assert_eq!(rt;
-        verdict(&invalid, shut, true, Access::Store, at),
+        verdict(&invalid, shut, attempt(Access::Store, true, at)),
         denied(Denial::Invalid, at)
     );
     assert_eq!(rt;
-        verdict(&page, shut, true, Access::Store, at),
+        verdict(&page, shut, attempt(Access::Store, true, at)),
         denied(Denial::Group, at)
     );
     assert_eq!(rt;
-        verdict(&page, open, true, Access::Store, at),
+        verdict(&page, open, attempt(Access::Store, true, at)),
         denied(Denial::Rights, at)
     );
     assert_eq!(rt;
-        verdict(&page, open, false, Access::Store, at),
+        verdict(&page, open, attempt(Access::Store, false, at)),
         denied(Denial::Unchanged, at)
     );
     assert_eq!(rt;
-        verdict(&shared, open, true, Access::Store, at),
+        verdict(&shared, open, attempt(Access::Store, true, at)),
         denied(Denial::Unchanged, at)
     );
 }
@@ -109,12 +131,18 @@ fn grants(rt: HostRuntime) {
         write_through: true,
         guarded: true,
     };
-    let page = DataPage::made(0x1000, 0x13, 0x5103);
-    assert_eq!(rt; verdict(&page, open, false, Access::Store, at), Ok(grant));
+    let page = DataPage::made(words(0x1000, 0x13, 0x5103));
+    assert_eq!(rt;
+        verdict(&page, open, attempt(Access::Store, false, at)),
+        Ok(grant)
+    );
     let fetched = Grant {
         write_through: false,
         ..grant
     };
-    let page = InstructionPage::made(0x1000, 0x13, 0x5103);
-    assert_eq!(rt; verdict(&page, open, false, Access::Fetch, at), Ok(fetched));
+    let page = InstructionPage::made(words(0x1000, 0x13, 0x5103));
+    assert_eq!(rt;
+        verdict(&page, open, attempt(Access::Fetch, false, at)),
+        Ok(fetched)
+    );
 }

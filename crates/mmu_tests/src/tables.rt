@@ -1,9 +1,10 @@
 // The tablewalk over RAM.
+use crate::entries::words;
 use board::bus::{BusFault, Refusal};
 use board::memory::Memory;
 use board::ram::Ram;
 use calls::fault::{Descriptor, Fault, Level};
-use mmu::walk::{first_place, reading, second_place};
+use mmu::walk::{Table, reading};
 use tlb::page::{DataPage, Page};
 
 // What is read for an address where the two words stand at 0x10 and 0x1004.
@@ -30,16 +31,16 @@ fn refused(level: Level, address: u32) -> Result<DataPage, Fault> {
 
 #[test]
 fn addresses_of_words(rt: HostRuntime) {
-    assert_eq!(rt; first_place(0x1000, 0x00c0_3000), 0x100c);
-    assert_eq!(rt; first_place(0xffff_ffff, 0xffff_ffff), 0xffff_fffc);
-    assert_eq!(rt; second_place(0x0000_2fff, 0x0000_1234), 0x2004);
-    assert_eq!(rt; second_place(0xffff_f000, 0x003f_f000), 0xffff_fffc);
+    assert_eq!(rt; Table::First.place(0x1000, 0x00c0_3000), 0x100c);
+    assert_eq!(rt; Table::First.place(0xffff_ffff, 0xffff_ffff), 0xffff_fffc);
+    assert_eq!(rt; Table::Second.place(0x0000_2fff, 0x0000_1234), 0x2004);
+    assert_eq!(rt; Table::Second.place(0xffff_f000, 0x003f_f000), 0xffff_fffc);
 }
 
 #[test]
 fn walks(rt: HostRuntime) {
     let at = 0x0100_1234;
-    let page = DataPage::made(at, 0x1001, 0x51f1);
+    let page = DataPage::made(words(at, 0x1001, 0x51f1));
     assert_eq!(rt; read(0x1001, 0x51f1, 0, at), Ok(page));
     assert_eq!(rt;
         read(0x1000, 0x51f1, 0, at),
