@@ -14,7 +14,8 @@ use Rattle.twin.specs.History.{clears, cleared, loads_in}
 use Rattle.tlb.specs.Control.{with_index}
 use Rattle.twin.specs.Load.{Event, Loaded, Dropped, missed_epn}
 use Rattle.twin.specs.Resolve.{walked}
-use Rattle.twin.specs.Unit.{Shape, shape}
+use Rattle.tlb.specs.Shape.{Shape}
+use Rattle.twin.specs.Unit.{shape}
 
 module _ {P : Type 0} where
   tail : List (Event P) → List (Event P)

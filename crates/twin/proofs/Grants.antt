@@ -10,7 +10,8 @@ use Rattle.twin.proofs.Follows.{Kept, kept_life, kept_step}
 use Rattle.twin.proofs.Slots.{holds}
 use Rattle.twin.proofs.Sources.{no_true, Found, find_source, source_of, found_at, serves_live}
 use Rattle.mmu.specs.Rights.{access_of, kind_of}
-use Rattle.twin.specs.Access.{translates, serves, slot_found, page_gives, answer_of, found_answer, translated_answer, access_answer, access_left, found_left}
+use Rattle.mmu.specs.Verdict.{page_gives}
+use Rattle.twin.specs.Access.{translates, serves, slot_found, answer_of, found_answer, translated_answer, access_answer, access_left, found_left}
 use Rattle.twin.specs.Call.{access_outcome, resolve_outcome}
 use Rattle.twin.specs.Life.{State, begin, step, next, after, history}
 use Rattle.twin.specs.Load.{Event}

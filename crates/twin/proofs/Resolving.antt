@@ -1,5 +1,6 @@
 -- A resolve that misses, by where its walk stops. Assumes nothing.
 use Rattle.std.proofs.Common.{◌≡◌, ℕ, Bool, true, false, Some, None, Ok, Err, Option, Result, sym, refl, ap, ◌∙◌, arith}
+use Rattle.std.specs.Option.{ok_or}
 use Rattle.board.specs.Memory.{Meaning}
 use Rattle.calls.specs.declared.answer.Answer.{Answer}
 use Rattle.calls.specs.declared.answer.Answer.TheVariants.{Miss, Refused}
@@ -18,6 +19,11 @@ use Rattle.twin.specs.Resolve.{Walked, StoppedFirst, StoppedSecond, Passed, from
 use Rattle.twin.specs.Access.{translates}
 use Rattle.twin.specs.Unit.{shape, half, space, zero_entry}
 use Rattle.twin.specs.declared.unit.Mmu.{Mmu}
+
+-- what an access by number tells of its number
+pub numbered : (o : Option Access) (a : Access) (f : Fault) → Ok a ≡ ok_or o f → o ≡ Some a
+numbered None a f e = let no : ◌≡◌ {A = ℕ} 0 1 = cc in absurd (omega arith)
+numbered (Some b) a f e = cc
 
 -- where a walk stops, by its two words
 module _ (m : Meaning) (base e : ℕ) where

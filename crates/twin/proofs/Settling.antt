@@ -16,7 +16,8 @@ use Rattle.twin.proofs.Grants.{Hit, hit}
 use Rattle.twin.proofs.Pages.{page_same, loaded_serves, index_mode, space_small, next_small}
 use Rattle.twin.proofs.Sources.{no_true, source_of}
 use Rattle.mmu.specs.Rights.{kind_of}
-use Rattle.twin.specs.Access.{translates, serves, slot_found, page_gives, answer_of, found_answer, translated_answer, protection}
+use Rattle.mmu.specs.Verdict.{page_gives}
+use Rattle.twin.specs.Access.{translates, serves, slot_found, answer_of, found_answer, translated_answer, protection}
 use Rattle.twin.specs.Call.{resolve_outcome}
 use Rattle.twin.specs.History.{cleared}
 use Rattle.twin.specs.Life.{State, begin, after, history}
@@ -24,7 +25,8 @@ use Rattle.twin.specs.Load.{Event, loaded, loaded_entry}
 use Rattle.twin.specs.Promises.{settings, reading, reading_answer, Settled, SettledAnswers, LivesAlike}
 use Rattle.twin.specs.Resolve.{Walked, StoppedFirst, StoppedSecond, Passed, behind_first, from_first, walked, reading_by, resolved, resolve_found, resolve_walked, resolve_missed, first_written, loaded_unit}
 use Rattle.twin.specs.Tells.{tells}
-use Rattle.twin.specs.Unit.{Page, Shape, shape, half, zero_entry, space}
+use Rattle.tlb.specs.Shape.{Shape}
+use Rattle.twin.specs.Unit.{Page, shape, half, zero_entry, space}
 use Rattle.twin.specs.declared.request.Reply.TheVariants as replies
 use Rattle.twin.specs.declared.unit.Half.{Half}
 use Rattle.twin.specs.declared.unit.Mmu.{Mmu}

@@ -4,7 +4,7 @@ use Rattle.std.proofs.lemmas.List.{length-set, length-map, length-take, length-d
 use Rattle.std.proofs.lemmas.Bool.{eqb-true, eqb-false, leb-true, leb-false}
 use Rattle.tlb.specs.declared.entry.Entry.{Entry}
 use Rattle.twin.specs.Load.{Event, Loaded, Dropped, DroppedAll, spares, ended, dropped, all_ended}
-use Rattle.twin.specs.Unit.{Shape}
+use Rattle.tlb.specs.Shape.{Shape}
 
 module _ {P : Type 0} (s : Shape P) (z : Entry P) where
   -- the entry in slot i after these events, the slot having held z at first

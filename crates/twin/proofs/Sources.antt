@@ -8,7 +8,7 @@ use Rattle.twin.proofs.Slots.{holds}
 use Rattle.twin.specs.Access.{serves}
 use Rattle.twin.specs.History.{LoadIn, refills, refilled, clears, cleared, admits, Source}
 use Rattle.twin.specs.Load.{Event, Loaded, Dropped, DroppedAll, spares, ended, dropped}
-use Rattle.twin.specs.Unit.{Shape}
+use Rattle.tlb.specs.Shape.{Shape}
 
 pub no_true : {A : Type 0} → false ≡ true → A
 no_true e = absurd (both_ways false refl e)

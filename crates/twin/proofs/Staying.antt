@@ -25,7 +25,8 @@ use Rattle.twin.specs.Life.{State, begin, step, next, after, history}
 use Rattle.twin.specs.Load.{Event, Loaded, Dropped, DroppedAll, ended, dropped, load_event}
 use Rattle.twin.specs.Promises.{asks, sets, some_sets, Few, LoadedBy, NotMissed, LoadedStays}
 use Rattle.twin.specs.Resolve.{Walked, StoppedFirst, StoppedSecond, Passed, walked, resolved, resolve_found, resolve_walked, resolve_missed, first_written, only}
-use Rattle.twin.specs.Unit.{Page, Shape, shape, half, zero_entry, space}
+use Rattle.tlb.specs.Shape.{Shape}
+use Rattle.twin.specs.Unit.{Page, shape, half, zero_entry, space}
 use Rattle.twin.specs.declared.request.Reply.TheVariants as replies
 use Rattle.twin.specs.declared.request.Request.{Request}
 use Rattle.twin.specs.declared.unit.Mmu.{Mmu}

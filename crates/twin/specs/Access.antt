@@ -4,7 +4,7 @@ use Rattle.calls.specs.declared.answer.Answer.{Answer}
 use Rattle.calls.specs.declared.answer.Answer.TheVariants.{Miss, Granted, Refused}
 use Rattle.calls.specs.declared.answer.Grant.{Grant}
 use Rattle.calls.specs.declared.fault.Fault.{Fault}
-use Rattle.mmu.specs.Verdict.{gives, through_for}
+use Rattle.mmu.specs.Verdict.{page_gives, through_for}
 use Rattle.mmu.specs.declared.rights.Access.{Access}
 use Rattle.mmu.specs.declared.rights.Protection.{Protection}
 use Rattle.tlb.specs.Control.{group_mode, default_inhibit, default_through}
@@ -14,7 +14,8 @@ use Rattle.tlb.specs.declared.entry.Entry.{Entry}
 use Rattle.tlb.specs.declared.register.Kind.{Kind}
 use Rattle.tlb.specs.declared.register.Kind.TheVariants.{Instruction, Data}
 use Rattle.twin.specs.Load.{missed}
-use Rattle.twin.specs.Unit.{Shape, shape, half, put, space, zero_entry}
+use Rattle.tlb.specs.Shape.{Shape}
+use Rattle.twin.specs.Unit.{shape, half, put, space, zero_entry}
 use Rattle.twin.specs.declared.unit.Half.{Half}
 use Rattle.twin.specs.declared.unit.Mode.{Mode}
 use Rattle.twin.specs.declared.unit.Mmu.{Mmu}
@@ -34,10 +35,6 @@ serves s e current x = matched x.live x.space (s.body x.page) e current
 -- the lowest slot that matches
 abbrev pub slot_found : {P : Type 0} → Shape P → Half P → ℕ → ℕ → Option ℕ
 slot_found s h e current = lowest (serves s e current) h.slots
-
--- what a page gives to an access, under protection settings and a privilege
-abbrev pub page_gives : {P : Type 0} → Shape P → P → Protection → Bool → Access → ℕ → Result Grant Fault
-page_gives s p settings problem a e = gives (s.body p) (s.through p) (s.changed p) settings problem a e
 
 abbrev pub answer_of : Result Grant Fault → Answer
 answer_of (Ok g) = Granted g

@@ -1,5 +1,5 @@
 -- One definition for each call: its reply, the unit and memory that it leaves, and its events. Assumes nothing.
-use Rattle.std.specs.Prelude.{ℕ, Bool, cond, List, [], ◌∷◌, Some, None, Option, ◌==◌, nat_le, slice_index_or}
+use Rattle.std.specs.Prelude.{ℕ, Bool, cond, List, [], ◌∷◌, Some, None, Option, nat_le, slice_index_or}
 use Rattle.board.specs.Memory.{Meaning, peeked, poked, stored}
 use Rattle.calls.specs.Answer.{peek_answer, poke_answer}
 use Rattle.calls.specs.declared.answer.Answer.{Answer}
@@ -11,7 +11,7 @@ use Rattle.calls.specs.declared.fault.Misuse.{Misuse}
 use Rattle.calls.specs.declared.fault.Misuse.TheVariants.{NoRegister}
 use Rattle.mmu.specs.declared.rights.Access as accesses
 use Rattle.tlb.specs.Control.{reserve}
-use Rattle.tlb.specs.Register.{register_at}
+use Rattle.tlb.specs.Register.{kind_at, register_at}
 use Rattle.tlb.specs.declared.register.Kind.{Kind}
 use Rattle.tlb.specs.declared.register.Kind.TheVariants.{Instruction, Data}
 use Rattle.tlb.specs.declared.register.Register as registers
@@ -21,6 +21,7 @@ use Rattle.twin.specs.Load.{Event, Dropped, DroppedAll, drop_half, drop_all_half
 use Rattle.twin.specs.Registers.{register_read, misused, register_written, write_events}
 use Rattle.twin.specs.Resolve.{ResultOf, resolved, none}
 use Rattle.twin.specs.Unit.{Page, shape, half, put, zero_entry}
+use Rattle.twin.specs.declared.look.Seen.TheVariants as seens
 use Rattle.twin.specs.declared.request.Reply.{Reply}
 use Rattle.twin.specs.declared.request.Reply.TheVariants as replies
 use Rattle.twin.specs.declared.request.Request.{Request}
@@ -74,11 +75,11 @@ drop_all_unit u = put Instruction (drop_all_half (half Instruction u)) (put Data
 
 -- looks: kind 0 is instruction, 1 data; then the slot
 abbrev pub look_kind : ℕ → Option Kind
-look_kind n = cond (n == 0) (Some Instruction) (cond (n == 1) (Some Data) None)
+look_kind n = kind_at n
 
 abbrev pub seen : Kind → ℕ → Mmu → Reply
-seen Instruction i u = replies.SawInstruction (slice_index_or u.instruction.slots i (zero_entry Instruction))
-seen Data i u = replies.SawData (slice_index_or u.«data».slots i (zero_entry Data))
+seen Instruction i u = replies.Saw (seens.Instruction (slice_index_or u.instruction.slots i (zero_entry Instruction)))
+seen Data i u = replies.Saw (seens.Data (slice_index_or u.«data».slots i (zero_entry Data)))
 
 abbrev pub look_reply : Option Kind → ℕ → ℕ → Mmu → Reply
 look_reply None n i u = replies.Answer (Refused (NoKind n))

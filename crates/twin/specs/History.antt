@@ -3,7 +3,7 @@ use Rattle.std.specs.Prelude.{◌≡◌, ℕ, ◌+◌, Bool, true, false, not, �
 use Rattle.tlb.specs.Page.{contains}
 use Rattle.tlb.specs.declared.entry.Entry.{Entry}
 use Rattle.twin.specs.Load.{Event, Loaded, Dropped, DroppedAll, spares}
-use Rattle.twin.specs.Unit.{Shape}
+use Rattle.tlb.specs.Shape.{Shape}
 
 module _ {P : Type 0} where
   -- a load somewhere in a history: what came later, its slot and entry, what came before

@@ -4,7 +4,7 @@ use Rattle.tlb.specs.Control.{index_of, with_index, next_index, reserve}
 use Rattle.tlb.specs.Entry.{entry_of}
 use Rattle.tlb.specs.Page.{contains}
 use Rattle.tlb.specs.declared.entry.Entry.{Entry}
-use Rattle.twin.specs.Unit.{Shape}
+use Rattle.tlb.specs.Shape.{Shape}
 use Rattle.twin.specs.declared.unit.Half.{Half}
 
 -- what happens to a kind's slots: a load (its slot, and the entry that fills it), a drop of an address, a drop of all,

@@ -5,9 +5,8 @@ use Rattle.calls.specs.declared.fault.Fault.{Fault}
 use Rattle.calls.specs.declared.fault.Fault.TheVariants.{NoSlot}
 use Rattle.tlb.specs.declared.entry.Entry.{Entry}
 use Rattle.twin.specs.declared.look.Seen.{Seen}
-use Rattle.twin.specs.declared.look.Seen.TheVariants.{Instruction, Data}
 use Rattle.twin.specs.declared.request.Reply.{Reply}
-use Rattle.twin.specs.declared.request.Reply.TheVariants.{Answer, SawInstruction, SawData}
+use Rattle.twin.specs.declared.request.Reply.TheVariants.{Answer, Saw}
 
 -- the entry in a slot of one kind
 abbrev pub slot_seen : {P : Type 0} → List (Entry P) → ℕ → Entry P → Result (Entry P) Fault
@@ -15,6 +14,5 @@ slot_seen xs i d = cond (nat_le i 31) (Ok (slice_index_or xs i d)) (Err (NoSlot 
 
 -- a look's result as a reply, which tells all results apart
 abbrev pub look_as_reply : Result Seen Fault → Reply
-look_as_reply (Ok (Instruction x)) = SawInstruction x
-look_as_reply (Ok (Data x)) = SawData x
+look_as_reply (Ok x) = Saw x
 look_as_reply (Err f) = Answer (Refused f)

@@ -20,13 +20,15 @@ use Rattle.tlb.specs.declared.register.Register.{Register}
 use Rattle.tlb.specs.declared.register.Register.TheVariants.{Ctr, Ap, Epn, Twc, Rpn, Casid, Twb, Tw}
 use Rattle.tlb.specs.declared.entry.Entry.{Entry}
 use Rattle.mmu.specs.Rights.{access_of, kind_of}
-use Rattle.twin.specs.Access.{translates, protection, slot_found, page_gives, answer_of}
+use Rattle.mmu.specs.Verdict.{page_gives}
+use Rattle.twin.specs.Access.{translates, protection, slot_found, answer_of}
 use Rattle.twin.specs.History.{LoadIn, Source, cleared, disturbed, admits, loads_in}
 use Rattle.twin.specs.Life.{State, begin, step, next, after, history}
 use Rattle.twin.specs.Load.{Event, Loaded}
 use Rattle.twin.specs.Registers.{misused}
 use Rattle.twin.specs.Tells.{tells}
-use Rattle.twin.specs.Unit.{Page, Shape, shape, half, space}
+use Rattle.tlb.specs.Shape.{Shape}
+use Rattle.twin.specs.Unit.{Page, shape, half, space}
 use Rattle.twin.specs.declared.request.Reply.TheVariants as replies
 use Rattle.twin.specs.declared.request.Request.{Request}
 use Rattle.twin.specs.declared.request.Request.TheVariants as requests

@@ -14,7 +14,7 @@ use Rattle.twin.specs.Example.{tables, asked, told}
 use Rattle.twin.specs.Life.{State, begin, step, next, after, replies}
 use Rattle.twin.specs.Promises.{asks}
 use Rattle.twin.specs.declared.request.Reply.{Reply}
-use Rattle.twin.specs.declared.request.Reply.TheVariants.{Answer as Told, SawInstruction, SawData}
+use Rattle.twin.specs.declared.request.Reply.TheVariants.{Answer as Told, Saw}
 use Rattle.twin.specs.declared.request.Request.{Request}
 use Rattle.twin.specs.declared.request.Request.TheVariants.{Call}
 use Rattle.twin.specs.Load.{Loaded}
@@ -44,8 +44,7 @@ then_held held (Told (Value w)) = w
 then_held held (Told Miss) = held
 then_held held (Told (Granted g)) = held
 then_held held (Told (Refused f)) = held
-then_held held (SawInstruction x) = held
-then_held held (SawData x) = held
+then_held held (Saw x) = held
 
 -- the requests that steps make
 abbrev pub made_by : List Step → ℕ → State → List Request
@@ -69,8 +68,7 @@ accepts (Told (Value w)) = true
 accepts (Told Miss) = true
 accepts (Told (Granted g)) = true
 accepts (Told (Refused f)) = false
-accepts (SawInstruction x) = true
-accepts (SawData x) = true
+accepts (Saw x) = true
 
 abbrev pub all_accept : List Reply → Bool
 all_accept [] = true

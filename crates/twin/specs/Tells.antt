@@ -6,6 +6,7 @@ use Rattle.calls.specs.declared.answer.Answer.{Answer}
 use Rattle.calls.specs.declared.answer.Answer.TheVariants.{Done, Value, Miss, Granted, Refused}
 use Rattle.tlb.specs.Page.{bytes_in}
 use Rattle.tlb.specs.declared.page.Common.{Common}
+use Rattle.twin.specs.declared.look.Seen.TheVariants as seens
 use Rattle.twin.specs.declared.request.Reply.{Reply}
 use Rattle.twin.specs.declared.request.Reply.TheVariants as replies
 
@@ -30,5 +31,5 @@ answer_tells (Refused f) = record { number = Some (figures_of f).number; values 
 
 abbrev pub tells : Reply → Tells
 tells (replies.Answer a) = answer_tells a
-tells (replies.SawInstruction x) = record { number = None; values = bool_byte x.live ∷ x.space ∷ common_values x.page.common [] }
-tells (replies.SawData x) = record { number = None; values = bool_byte x.live ∷ x.space ∷ common_values x.page.common (bool_byte x.page.write_through ∷ bool_byte x.page.changed ∷ []) }
+tells (replies.Saw (seens.Instruction x)) = record { number = None; values = bool_byte x.live ∷ x.space ∷ common_values x.page.common [] }
+tells (replies.Saw (seens.Data x)) = record { number = None; values = bool_byte x.live ∷ x.space ∷ common_values x.page.common (bool_byte x.page.write_through ∷ bool_byte x.page.changed ∷ []) }

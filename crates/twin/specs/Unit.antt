@@ -1,10 +1,9 @@
 -- The unit's state, seen by kind. Assumes nothing.
-use Rattle.std.specs.Prelude.{ℕ, Bool, true, false, replicate}
+use Rattle.std.specs.Prelude.{ℕ, false, replicate}
 use Rattle.tlb.specs.Bits.{field}
 use Rattle.tlb.specs.Entry.{entry_of}
-use Rattle.tlb.specs.Page.{instruction_page, data_page}
+use Rattle.tlb.specs.Shape.{Shape, instruction_shape, data_shape}
 use Rattle.tlb.specs.declared.entry.Entry.{Entry}
-use Rattle.tlb.specs.declared.page.Common.{Common}
 use Rattle.tlb.specs.declared.page.DataPage.{DataPage}
 use Rattle.tlb.specs.declared.page.InstructionPage.{InstructionPage}
 use Rattle.tlb.specs.declared.register.Kind.{Kind}
@@ -17,18 +16,10 @@ abbrev pub Page : Kind → Type 0
 Page Instruction = InstructionPage
 Page Data = DataPage
 
--- what the rules ask of a page type: the page that EPN, TWC and RPN make; what both kinds of page have; write-through
--- and changed
-pub record Shape (P : Type 0) : Type 0 where
-  pub made : ℕ → ℕ → ℕ → P
-  pub body : P → Common
-  pub through : P → Bool
-  pub changed : P → Bool
-
--- a page for fetches is never stored to, so it counts as changed
+-- how a kind's pages are made, and what is read of them
 abbrev pub shape : (k : Kind) → Shape (Page k)
-shape Instruction = record { made = instruction_page; body = λ p. p.common; through = λ _. false; changed = λ _. true }
-shape Data = record { made = data_page; body = λ p. p.common; through = λ p. p.write_through; changed = λ p. p.changed }
+shape Instruction = instruction_shape
+shape Data = data_shape
 
 -- the registers and slots of a kind
 abbrev pub half : (k : Kind) → Mmu → Half (Page k)
@@ -43,8 +34,12 @@ put Data h u = record { instruction = u.instruction; «data» = h; casid = u.cas
 abbrev pub zero_entry : (k : Kind) → Entry (Page k)
 zero_entry k = entry_of (shape k).made 0 0 0
 
+-- a half whose control register has this word, every slot as if filled from zeros
+abbrev pub fresh : {P : Type 0} → Shape P → ℕ → Half P
+fresh s ctr = record { ctr = ctr; ap = 0; epn = 0; twc = 0; rpn = 0; slots = replicate 32 (entry_of s.made 0 0 0) }
+
 abbrev pub new_half : (k : Kind) → ℕ → Half (Page k)
-new_half k ctr = record { ctr = ctr; ap = 0; epn = 0; twc = 0; rpn = 0; slots = replicate 32 (zero_entry k) }
+new_half k ctr = fresh (shape k) ctr
 
 abbrev pub new_unit : Mmu
 new_unit = record {
@@ -60,7 +55,3 @@ new_unit = record {
 -- the current space
 abbrev pub space : Mmu → ℕ
 space u = field 28 31 u.casid
-
--- the shape of a page type, by what its trait says
-abbrev pub shape_by : {P : Type 0} → (ℕ → ℕ → ℕ → P) → (P → Common) → (P → Bool) → (P → Bool) → Shape P
-shape_by makes body through marked = record { made = makes; body = body; through = through; changed = marked }

@@ -8,24 +8,17 @@ ghost use Rattle.mmu.specs.Rights.{access_of, kind_of};
 ghost use Rattle.tlb.specs.Entry.{entry_of};
 ghost use Rattle.twin.specs.Access.{protection, plain_grant, slot_found, found_answer, half_answer, access_answer};
 ghost use Rattle.twin.specs.Access.{translates};
-ghost use Rattle.twin.specs.Unit.{shape_by};
 
 use crate::unit::{Half, Mmu};
 use calls::answer::Grant;
 use calls::fault::Fault;
+use mmu::attempt::Attempt;
 use mmu::rights::{Access, Protection};
 use mmu::verdict::verdict;
 use tlb::control::Control;
 use tlb::page::Page;
 use tlb::register::Kind;
 use tlb::search::find;
-
-// Who asks: whether as problem, and in which space.
-#[derive(Clone, Copy)]
-struct Asker {
-    problem: bool,
-    space: u32,
-}
 
 impl<P: Page> Half<P> {
     fn protection(&self) -> Protection
@@ -38,45 +31,39 @@ impl<P: Page> Half<P> {
     }
 
     // The grant with translation off.
-    fn plain(&self, access: Access, address: u32) -> Grant
-        ensures { result ≡ plain_grant self.now access address }
+    fn plain(&self, attempt: Attempt) -> Grant
+        ensures { result ≡ plain_grant self.now attempt.access attempt.address }
     {
         let control = Control(self.ctr);
         Grant {
-            address,
+            address: attempt.address,
             size: 0,
             cache_inhibit: control.default_inhibit(),
-            write_through: access.through(control.default_write_through()),
+            write_through: attempt.access.through(control.default_write_through()),
             guarded: false,
         }
     }
 
     // The answer with translation on: by the lowest slot that matches, or none for a miss.
-    fn translated(&self, asker: Asker, access: Access, address: u32) -> Result<Option<Grant>, Fault>
-        ensures { grant_answer result ≡ found_answer (shape_by P.Page.makes P.Page.body P.Page.through P.Page.marked) self.now (entry_of P.Page.makes 0 0 0) (slot_found (shape_by P.Page.makes P.Page.body P.Page.through P.Page.marked) self.now address asker.space) asker.problem access address }
+    fn translated(&self, attempt: Attempt) -> Result<Option<Grant>, Fault>
+        ensures { grant_answer result ≡ found_answer P.Page.shape self.now (entry_of P.Page.shape.made 0 0 0) (slot_found P.Page.shape self.now attempt.address attempt.space) attempt.problem attempt.access attempt.address }
     {
-        let Some(slot) = find(&self.slots, address, asker.space) else {
+        let Some(slot) = find(&self.slots, attempt.address, attempt.space) else {
             return Ok(None);
         };
         let page = self.slots[slot].page;
-        let grant = verdict(&page, self.protection(), asker.problem, access, address)?;
+        let grant = verdict(&page, self.protection(), attempt)?;
         Ok(Some(grant))
     }
 
     // The answer with translation on or off.
-    fn answer(
-        &self,
-        on: bool,
-        asker: Asker,
-        access: Access,
-        address: u32,
-    ) -> Result<Option<Grant>, Fault>
-        ensures { grant_answer result ≡ half_answer (shape_by P.Page.makes P.Page.body P.Page.through P.Page.marked) self.now on asker.problem asker.space access address }
+    fn answer(&self, on: bool, attempt: Attempt) -> Result<Option<Grant>, Fault>
+        ensures { grant_answer result ≡ half_answer P.Page.shape self.now on attempt.problem attempt.space attempt.access attempt.address }
     {
         if on {
-            self.translated(asker, access, address)
+            self.translated(attempt)
         } else {
-            Ok(Some(self.plain(access, address)))
+            Ok(Some(self.plain(attempt)))
         }
     }
 }
@@ -88,13 +75,15 @@ impl Mmu {
     {
         let kind = access.kind();
         let on = self.mode.translates(kind);
-        let asker = Asker {
+        let attempt = Attempt {
+            access,
+            address,
             problem: self.mode.problem,
             space: self.space(),
         };
         match kind {
-            Kind::Instruction => self.instruction.answer(on, asker, access, address),
-            Kind::Data => self.data.answer(on, asker, access, address),
+            Kind::Instruction => self.instruction.answer(on, attempt),
+            Kind::Data => self.data.answer(on, attempt),
         }
     }
 
@@ -103,7 +92,7 @@ impl Mmu {
         ensures answer { (m : Meaning) → replies.Answer (grant_answer result) ≡ (access_outcome (access_of kind) kind address self.old m).reply }
         ensures left { (m : Meaning) → self.new ≡ (access_outcome (access_of kind) kind address self.old m).unit }
     {
-        let access = Access::numbered(kind).ok_or(Fault::NoKind { kind })?;
+        let access = Access::try_from(kind)?;
         let grant = self.answer(access, address)?;
         if grant.is_none() {
             self.miss(access.kind(), address);

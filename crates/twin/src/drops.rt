@@ -1,9 +1,8 @@
 // Drops.
-ghost use Rattle.std.specs.Prelude.{◌≡◌, length};
+ghost use Rattle.std.specs.Prelude.{◌≡◌, map};
 ghost use Rattle.tlb.specs.Control.{reserve};
 ghost use Rattle.twin.specs.Call.{drop_unit, drop_all_unit};
-ghost use Rattle.twin.specs.Load.{unspared, dropped, drop_half, drop_all_half};
-ghost use Rattle.twin.specs.Unit.{shape_by};
+ghost use Rattle.twin.specs.Load.{unspared, ended, dropped, drop_half, drop_all_half};
 
 use crate::unit::{Half, Mmu};
 use tlb::control::Control;
@@ -12,41 +11,50 @@ use tlb::page::Page;
 
 // Ends an entry if its page contains an address.
 fn end_holder<P: Page>(entry: &mut Entry<P>, address: u32)
-    ensures { entry.new ≡ dropped (shape_by P.Page.makes P.Page.body P.Page.through P.Page.marked) address entry.old }
+    ensures { entry.new ≡ dropped P.Page.shape address entry.old }
 {
     if entry.page.common().contains(address) {
         entry.live = false;
     }
 }
 
+// Ends every entry whose page contains an address.
+fn end_holders<P: Page>(entries: &mut [Entry<P>], address: u32)
+    ensures { entries.new ≡ map (dropped P.Page.shape address) entries.old }
+{
+    for entry in entries.iter_mut() {
+        end_holder(entry, address);
+    }
+}
+
+// Ends every entry.
+fn end_each<P>(entries: &mut [Entry<P>])
+    ensures { entries.new ≡ map ended entries.old }
+{
+    for entry in entries.iter_mut() {
+        entry.live = false;
+    }
+}
+
 impl<P: Page> Half<P> {
     fn drop_page(&mut self, address: u32)
-        ensures { self.new ≡ drop_half (shape_by P.Page.makes P.Page.body P.Page.through P.Page.marked) address self.old }
+        ensures { self.new ≡ drop_half P.Page.shape address self.old }
     {
-        for slot in 0..self.len() {
-            end_holder(&mut self.slots[slot], address);
-        }
+        end_holders(&mut self.slots, address);
     }
 
     // How many slots a drop of all ends: under the reserve bit the last four are spared.
     fn unspared(&self) -> usize
-        ensures value { result ≡ unspared (reserve self.now.ctr) }
-        ensures all { length self.now.slots ≡ 32 }
+        ensures { result ≡ unspared (reserve self.now.ctr) }
     {
-        let all = self.len();
-        if Control(self.ctr).reserve() {
-            all - 4
-        } else {
-            all
-        }
+        if Control(self.ctr).reserve() { 28 } else { 32 }
     }
 
     fn drop_all(&mut self)
         ensures { self.new ≡ drop_all_half self.old }
     {
-        for slot in 0..self.unspared() {
-            self.slots[slot].live = false;
-        }
+        let end = self.unspared();
+        end_each(&mut self.slots[..end]);
     }
 }
 

@@ -3,13 +3,13 @@ ghost use Rattle.std.specs.Prelude.{◌≡◌, ◌<◌};
 ghost use Rattle.twin.specs.Access.{missed_unit};
 ghost use Rattle.twin.specs.Load.{missed_epn, missed, loaded};
 ghost use Rattle.twin.specs.Resolve.{loaded_unit};
-ghost use Rattle.twin.specs.Unit.{shape_by};
 
 use crate::unit::{Half, Mmu};
 use tlb::control::{Control, next_index};
 use tlb::entry::Entry;
 use tlb::page::Page;
 use tlb::register::Kind;
+use tlb::source::Source;
 
 // The EPN that a miss of an address in a space sets: the page number, the live bit, the space.
 fn missed_epn(address: u32, space: u32) -> u32
@@ -22,11 +22,15 @@ fn missed_epn(address: u32, space: u32) -> u32
 impl<P: Page> Half<P> {
     // Fills the slot at the index from EPN, TWC and the word, which RPN takes; then the index counts down.
     fn load(&mut self, word: u32)
-        ensures { self.new ≡ loaded (shape_by P.Page.makes P.Page.body P.Page.through P.Page.marked) word self.old }
+        ensures { self.new ≡ loaded P.Page.shape word self.old }
     {
         let control = Control(self.ctr);
         let index = control.index() as u8;
-        self.slots[usize::from(index)] = Entry::made(self.epn, self.twc, word);
+        self.slots[usize::from(index)] = Entry::made(Source {
+            epn: self.epn,
+            twc: self.twc,
+            rpn: word,
+        });
         self.rpn = word;
         self.ctr = control.with_index(next_index(index, control.reserve())).0;
     }

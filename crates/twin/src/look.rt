@@ -58,7 +58,7 @@ impl<'a> Pointer<'a> {
 // The entry in a slot, by pointing the index at it.
 fn pointed<P: Page>(ctr: &mut u32, slots: &[Entry<P>], slot: u32) -> Result<Entry<P>, Fault>
     requires { length slots.now ≡ 32 }
-    ensures seen { result ≡ slot_seen slots.now slot (entry_of P.Page.makes 0 0 0) }
+    ensures seen { result ≡ slot_seen slots.now slot (entry_of P.Page.shape.made 0 0 0) }
     ensures back { ctr.new ≡ ctr.old }
 {
     let pointer = Pointer::at(ctr, slot);
@@ -70,7 +70,7 @@ fn pointed<P: Page>(ctr: &mut u32, slots: &[Entry<P>], slot: u32) -> Result<Entr
 
 impl<P: Page> Half<P> {
     fn look(&mut self, slot: u32) -> Result<Entry<P>, Fault>
-        ensures seen { result ≡ slot_seen self.old.slots slot (entry_of P.Page.makes 0 0 0) }
+        ensures seen { result ≡ slot_seen self.old.slots slot (entry_of P.Page.shape.made 0 0 0) }
         ensures back { self.new ≡ self.old }
     {
         pointed(&mut self.ctr, &self.slots, slot)
@@ -83,10 +83,9 @@ impl Mmu {
         ensures seen { look_as_reply result ≡ look_reply (look_kind kind) kind slot self.old }
         ensures back { self.new ≡ self.old }
     {
-        match kind {
-            0 => Ok(Seen::Instruction(self.instruction.look(slot)?)),
-            1 => Ok(Seen::Data(self.data.look(slot)?)),
-            _ => Err(Fault::NoKind { kind }),
+        match Kind::try_from(kind)? {
+            Kind::Instruction => Ok(Seen::Instruction(self.instruction.look(slot)?)),
+            Kind::Data => Ok(Seen::Data(self.data.look(slot)?)),
         }
     }
 }

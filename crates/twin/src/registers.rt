@@ -9,7 +9,7 @@ ghost use Rattle.twin.specs.Registers.{register_read, kept_written, checked};
 
 use crate::unit::{Mmu, Mode};
 use calls::fault::{Fault, Misuse};
-use mmu::walk::{first_place, second_place};
+use mmu::walk::Table;
 use tlb::control::Control;
 use tlb::descriptor::{mark_bits, size_bits};
 use tlb::register::{Kind, Register};
@@ -19,14 +19,13 @@ fn check(number: u32, word: u32) -> Result<Register, Fault>
     ensures { result ≡ checked (register_at number) number word }
 {
     let control = Control(word);
-    let misuse = match Register::numbered(number) {
-        None => Misuse::NoRegister,
-        Some(Register::Ctr(_)) if control.protection_mode() || control.state_compare() =>
-            Misuse::Mode,
-        Some(Register::Ctr(Kind::Data)) if !control.walk_assist() => Misuse::Mode,
-        Some(Register::Twc(_)) if size_bits(word) == 2 => Misuse::Size,
-        Some(Register::Rpn(_)) if mark_bits(word) != 15 => Misuse::Marks,
-        Some(register) => return Ok(register),
+    let register = Register::try_from(number)?;
+    let misuse = match register {
+        Register::Ctr(_) if control.protection_mode() || control.state_compare() => Misuse::Mode,
+        Register::Ctr(Kind::Data) if !control.walk_assist() => Misuse::Mode,
+        Register::Twc(_) if size_bits(word) == 2 => Misuse::Size,
+        Register::Rpn(_) if mark_bits(word) != 15 => Misuse::Marks,
+        _ => return Ok(register),
     };
     Err(Fault::Register {
         misuse,
@@ -47,11 +46,11 @@ impl Mmu {
             Register::Epn(Kind::Instruction) => self.instruction.epn,
             Register::Epn(Kind::Data) => self.data.epn,
             Register::Twc(Kind::Instruction) => self.instruction.twc,
-            Register::Twc(Kind::Data) => second_place(self.data.twc, self.data.epn),
+            Register::Twc(Kind::Data) => Table::Second.place(self.data.twc, self.data.epn),
             Register::Rpn(Kind::Instruction) => self.instruction.rpn,
             Register::Rpn(Kind::Data) => self.data.rpn,
             Register::Casid => self.casid,
-            Register::Twb => first_place(self.twb, self.data.epn),
+            Register::Twb => Table::First.place(self.twb, self.data.epn),
             Register::Tw => self.tw,
         }
     }
@@ -80,13 +79,8 @@ impl Mmu {
     pub fn read(&self, number: u32) -> Result<u32, Fault>
         ensures { value_answer result ≡ read_answer (register_at number) number self.now }
     {
-        match Register::numbered(number) {
-            Some(register) => Ok(self.get(register)),
-            None => Err(Fault::Register {
-                misuse: Misuse::NoRegister,
-                register: number,
-            }),
-        }
+        let register = Register::try_from(number)?;
+        Ok(self.get(register))
     }
 
     // Writes the register of that number. A refused write changes nothing; that of an RPN loads.

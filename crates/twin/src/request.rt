@@ -1,8 +1,11 @@
 // What can be asked of a twin, looks included, and what it replies.
+ghost use Rattle.std.specs.Prelude.{◌≡◌};
+ghost use Rattle.twin.specs.Look.{look_as_reply};
+
+use crate::look::Seen;
 use calls::answer::Answer;
 use calls::call::Call;
-use tlb::entry::Entry;
-use tlb::page::{DataPage, InstructionPage};
+use calls::fault::Fault;
 
 #[derive(Clone, Copy)]
 pub enum Request {
@@ -14,7 +17,18 @@ pub enum Request {
 #[derive(Clone, Copy)]
 pub enum Reply {
     Answer(Answer),
-    // the entry that a look saw
-    SawInstruction(Entry<InstructionPage>),
-    SawData(Entry<DataPage>),
+    // what a look saw
+    Saw(Seen),
+}
+
+// What a look saw, or why it is refused.
+impl From<Result<Seen, Fault>> for Reply {
+    ghost from_gives = { λ r a. a ≡ look_as_reply r };
+
+    fn from(res: Result<Seen, Fault>) -> Reply {
+        match res {
+            Ok(seen) => Reply::Saw(seen),
+            Err(fault) => Reply::Answer(Answer::Refused(fault)),
+        }
+    }
 }

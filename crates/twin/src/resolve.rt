@@ -11,7 +11,7 @@ use board::memory::Memory;
 use calls::answer::Grant;
 use calls::fault::Fault;
 use mmu::rights::Access;
-use mmu::walk::{walk_first, walk_second};
+use mmu::walk::Table;
 use tlb::register::{Kind, Register};
 
 impl Mmu {
@@ -31,9 +31,9 @@ impl Mmu {
         ensures answer { result ≡ walk_result (walked (M.Memory.meaning memory.now) self.old.twb address) }
         ensures left { self.new ≡ walk_unit kind (walked (M.Memory.meaning memory.now) self.old.twb address) self.old }
     {
-        let first = walk_first(memory, self.twb, address)?;
+        let first = Table::First.word(memory, self.twb, address)?;
         self.keep_first(kind, first);
-        let second = walk_second(memory, first, address)?;
+        let second = Table::Second.word(memory, first, address)?;
         self.load(kind, second);
         Ok(())
     }
@@ -48,7 +48,7 @@ impl Mmu {
         ensures answer { replies.Answer (grant_answer result) ≡ (resolve_outcome (access_of kind) kind address self.old (M.Memory.meaning memory.now)).reply }
         ensures left { self.new ≡ (resolve_outcome (access_of kind) kind address self.old (M.Memory.meaning memory.now)).unit }
     {
-        let access = Access::numbered(kind).ok_or(Fault::NoKind { kind })?;
+        let access = Access::try_from(kind)?;
         let found = self.answer(access, address)?;
         if found.is_some() {
             return Ok(found);

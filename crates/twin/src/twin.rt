@@ -8,7 +8,6 @@ ghost use Rattle.twin.specs.Bytes.{call_pile, pile_by};
 ghost use Rattle.twin.specs.declared.request.Reply as replies;
 ghost use Rattle.twin.specs.Unit.{new_unit};
 
-use crate::look::Seen;
 use crate::request::{Reply, Request};
 use crate::unit::{Mmu, Mode};
 use board::memory::Memory;
@@ -106,11 +105,7 @@ impl<'a, M: Memory> Twin<'a, M> {
     {
         match request {
             Request::Call(call) => Reply::Answer(self.call(call)),
-            Request::Look { kind, slot } => match self.unit.look(kind, slot) {
-                Ok(Seen::Instruction(entry)) => Reply::SawInstruction(entry),
-                Ok(Seen::Data(entry)) => Reply::SawData(entry),
-                Err(fault) => Reply::Answer(Answer::Refused(fault)),
-            },
+            Request::Look { kind, slot } => Reply::from(self.unit.look(kind, slot)),
         }
     }
 

@@ -1,10 +1,10 @@
 // The unit's state.
-ghost use Rattle.std.specs.Prelude.{◌≡◌, ◌<◌, length};
+ghost use Rattle.std.specs.Prelude.{◌≡◌, ◌<◌};
 ghost use Rattle.twin.specs.Access.{translates};
-ghost use Rattle.twin.specs.Unit.{new_unit, space};
+ghost use Rattle.twin.specs.Unit.{fresh, new_unit, space};
 
 use tlb::entry::Entry;
-use tlb::page::{DataPage, InstructionPage};
+use tlb::page::{DataPage, InstructionPage, Page};
 use tlb::register::{Kind, Register};
 
 // The registers and the slots of one kind.
@@ -39,19 +39,19 @@ pub struct Mmu {
     pub loads: u32,
 }
 
-fn count<T>(slots: &[T]) -> usize
-    ensures { result ≡ length slots.now }
-{
-    slots.len()
-}
-
-impl<P> Half<P> {
-    // How many slots there are.
-    pub(crate) fn len(&self) -> usize
-        ensures value { result ≡ 32 }
-        ensures all { length self.now.slots ≡ 32 }
+impl<P: Page> Half<P> {
+    // A half whose control register has this word: every other register is 0, every slot as if filled from zeros.
+    fn new(ctr: u32) -> Half<P>
+        ensures { result ≡ fresh P.Page.shape ctr }
     {
-        count(&self.slots)
+        Half {
+            ctr,
+            ap: 0,
+            epn: 0,
+            twc: 0,
+            rpn: 0,
+            slots: [Entry::zero(); 32],
+        }
     }
 }
 
@@ -72,30 +72,14 @@ impl Mmu {
     pub fn new() -> Mmu
         ensures { result ≡ new_unit }
     {
-        let instruction = Half {
-            ctr: 0,
-            ap: 0,
-            epn: 0,
-            twc: 0,
-            rpn: 0,
-            slots: [Entry::zero(); 32],
-        };
-        let data = Half {
-            ctr: 0x0400_0000,
-            ap: 0,
-            epn: 0,
-            twc: 0,
-            rpn: 0,
-            slots: [Entry::zero(); 32],
-        };
         let mode = Mode {
             problem: false,
             instruction: false,
             data: false,
         };
         Mmu {
-            instruction,
-            data,
+            instruction: Half::new(0),
+            data: Half::new(0x0400_0000),
             casid: 0,
             twb: 0,
             tw: 0,

@@ -6,13 +6,14 @@ use calls::fault::Fault;
 use std::test::Fail;
 use tlb::entry::Entry;
 use tlb::page::DataPage;
+use twin::look::Seen;
 use twin::request::{Reply, Request};
 use twin::twin::Twin;
 
 // The data entry that a reply tells of.
 fn seen(reply: Reply) -> Result<Entry<DataPage>, Fail> {
     match reply {
-        Reply::SawData(entry) => Ok(entry),
+        Reply::Saw(Seen::Data(entry)) => Ok(entry),
         _ => Err(Fail::new("no data entry")),
     }
 }

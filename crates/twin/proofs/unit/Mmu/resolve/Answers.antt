@@ -1,8 +1,8 @@
-use Rattle.std.proofs.Common.{◌≡◌, None, Ok, Err, sym, ap, ◌∙◌, arith}
+use Rattle.std.proofs.Common.{◌≡◌, None, Ok, Err, rules, sym, ap, ◌∙◌, arith}
 use Rattle.std.proofs.lemmas.Result.{err_from_is_err_and}
 use Rattle.calls.specs.Answer.{grant_answer}
 use Rattle.tlb.specs.declared.register.Kind.TheVariants.{Data}
-use Rattle.twin.proofs.Resolving.{Missing, resolve_stopped, resolve_loaded}
+use Rattle.twin.proofs.Resolving.{Missing, numbered, resolve_stopped, resolve_loaded}
 use Rattle.twin.specs.Access.{missed_unit}
 use Rattle.twin.specs.declared.request.Reply.TheVariants as replies
 use Rattle.twin.proofs.unit.Mmu.resolve.Given as given
@@ -14,7 +14,7 @@ missing : (g : given.Over) (c : After-walk g) → Missing c.args.kind (g.M.Memor
 missing g c =
     let none : c.in_ok-found.found ≡ None = grind arith in
     record {
-      number = grind arith;
+      number = numbered _ _ _ c.in_ok-access.ensures;
       kind = c.kind-side.ensures;
       missed = ap (λ o. grant_answer (Ok o)) (sym none) ∙ c.in_ok-found.ensures;
       left = c.miss-2.ensures ∙ ap (missed_unit Data c.args.address) c.miss.ensures;
@@ -32,3 +32,15 @@ returns g c =
     let walk = c.in_ok-walk.ensures in
     let r = resolve_loaded _ _ _ _ _ _ _ (missing g (goal.at.returns g c).After-walk) _ _ walk.answer walk.left c.answer-2.ensures in
     record { answer = r.answer; left = r.left }
+
+pub returns-in_err-found-clause-answer : goal.returns-in_err-found-clause-answer
+returns-in_err-found-clause-answer g c = rw (numbered _ _ _ c.in_ok-access.ensures) (search rules)
+
+pub returns-in_err-found-clause-left : goal.returns-in_err-found-clause-left
+returns-in_err-found-clause-left g c = rw (numbered _ _ _ c.in_ok-access.ensures) (search rules)
+
+pub returns-then-is_some-clause-answer : goal.returns-then-is_some-clause-answer
+returns-then-is_some-clause-answer g c = rw (numbered _ _ _ c.in_ok-access.ensures) (search rules)
+
+pub returns-then-is_some-clause-left : goal.returns-then-is_some-clause-left
+returns-then-is_some-clause-left g c = rw (numbered _ _ _ c.in_ok-access.ensures) (search rules)

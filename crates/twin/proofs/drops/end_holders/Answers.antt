@@ -1,0 +1,10 @@
+use Rattle.std.proofs.Common.{slice_set, sym, ap, ◌∙◌}
+use Rattle.std.proofs.lemmas.List.Edits.{map_over_more}
+use Rattle.twin.specs.Load.{dropped}
+use Rattle.twin.proofs.drops.end_holders.Goals as goal
+
+pub loop-entry-preserved : goal.loop-entry-preserved
+loop-entry-preserved g c =
+    let f = dropped g.P.Page.shape c.args.address in
+    ap (slice_set c.loop-entry.entries c.loop-entry.entry-index) (c.end_holder.ensures ∙ ap f (sym c.entry-item.is))
+    ∙ map_over_more f c.args.entries.now c.loop-entry.entries c.loop-entry.entry-index c.entry-item.result c.loop-entry-test.true c.loop-entry.invariant c.entry-item.is
