@@ -45,18 +45,18 @@ pub data Moves {P : Type 0} (c d : ℕ) (vs : List (Event P)) : Type 0 where
   turns : (x : Entry P) → vs ≡ Loaded (index_of c) x ∷ [] → d ≡ with_index (next_index (reserve c) (index_of c)) c → Moves c d vs
 
 abbrev Moved : (k : Kind) → Mmu → Mmu → List (Event (Page k)) → Type 0
-Moved k u v vs = Moves (half k u).ctr (half k v).ctr vs
+Moved k u v vs = Moves (half k u).registers.ctr (half k v).registers.ctr vs
 
-quiet : (k : Kind) (u v : Mmu) → (half k v).ctr ≡ (half k u).ctr → Moved k u v []
+quiet : (k : Kind) (u v : Mmu) → (half k v).registers.ctr ≡ (half k u).registers.ctr → Moved k u v []
 quiet k u v e = stands e refl (λ i. refl)
 
-same_ctr : (j k : Kind) (h : Half (Page j)) (u : Mmu) → h.ctr ≡ (half j u).ctr → (half k (put j h u)).ctr ≡ (half k u).ctr
+same_ctr : (j k : Kind) (h : Half (Page j)) (u : Mmu) → h.registers.ctr ≡ (half j u).registers.ctr → (half k (put j h u)).registers.ctr ≡ (half k u).registers.ctr
 same_ctr Instruction Instruction h u e = e
 same_ctr Instruction Data h u e = refl
 same_ctr Data Instruction h u e = refl
 same_ctr Data Data h u e = e
 
-move_load : (j k : Kind) (w : ℕ) (u v : Mmu) → ((l : Kind) → (half l v).ctr ≡ (half l u).ctr) → Moved k u (loaded_unit j w v) (only j (load_event (shape j) w (half j v)) k)
+move_load : (j k : Kind) (w : ℕ) (u v : Mmu) → ((l : Kind) → (half l v).registers.ctr ≡ (half l u).registers.ctr) → Moved k u (loaded_unit j w v) (only j (load_event (shape j) w (half j v)) k)
 move_load Instruction Instruction w u v e = turns _ (ap (λ c. Loaded (index_of c) (loaded_entry (shape Instruction) w (half Instruction v)) ∷ []) (e Instruction)) (ap (λ c. with_index (next_index (reserve c) (index_of c)) c) (e Instruction))
 move_load Instruction Data w u v e = quiet Data u (loaded_unit Instruction w v) (e Data)
 move_load Data Instruction w u v e = quiet Instruction u (loaded_unit Data w v) (e Instruction)
@@ -91,14 +91,14 @@ move_write None n w m k u e = quiet k u u refl
 move_write (Some r) n w m k u e = move_by (misused r w) r n w m k u refl e
 
 -- accesses
-missed_ctr : (j k : Kind) (e : ℕ) (u : Mmu) → (half k (missed_unit j e u)).ctr ≡ (half k u).ctr
+missed_ctr : (j k : Kind) (e : ℕ) (u : Mmu) → (half k (missed_unit j e u)).registers.ctr ≡ (half k u).registers.ctr
 missed_ctr j k e u = same_ctr j k _ u refl
 
-found_ctr : (j k : Kind) (o : Option ℕ) (e : ℕ) (u : Mmu) → (half k (found_left j o e u)).ctr ≡ (half k u).ctr
+found_ctr : (j k : Kind) (o : Option ℕ) (e : ℕ) (u : Mmu) → (half k (found_left j o e u)).registers.ctr ≡ (half k u).registers.ctr
 found_ctr j k None e u = missed_ctr j k e u
 found_ctr j k (Some i) e u = refl
 
-access_ctr : (t : Bool) (j k : Kind) (e : ℕ) (u : Mmu) → (half k (access_left t j u e)).ctr ≡ (half k u).ctr
+access_ctr : (t : Bool) (j k : Kind) (e : ℕ) (u : Mmu) → (half k (access_left t j u e)).registers.ctr ≡ (half k u).registers.ctr
 access_ctr false j k e u = refl
 access_ctr true j k e u = found_ctr j k (slot_found (shape j) (half j u) e (space u)) e u
 
@@ -107,10 +107,10 @@ move_access None n e m k u = quiet k u u refl
 move_access (Some a) n e m k u = quiet k u (access_left (translates (kind_of a) u.mode) (kind_of a) u e) (access_ctr (translates (kind_of a) u.mode) (kind_of a) k e u)
 
 -- resolves
-resolve_missed_ctr : (j k : Kind) (e : ℕ) (u : Mmu) → (half k (resolve_missed j e u)).ctr ≡ (half k u).ctr
+resolve_missed_ctr : (j k : Kind) (e : ℕ) (u : Mmu) → (half k (resolve_missed j e u)).registers.ctr ≡ (half k u).registers.ctr
 resolve_missed_ctr j k e u = missed_ctr Data k e (missed_unit j e u) ∙ missed_ctr j k e u
 
-first_ctr : (j k : Kind) (w : ℕ) (u : Mmu) → (half k (first_written j w u)).ctr ≡ (half k u).ctr
+first_ctr : (j k : Kind) (w : ℕ) (u : Mmu) → (half k (first_written j w u)).registers.ctr ≡ (half k u).registers.ctr
 first_ctr Instruction Instruction w u = refl
 first_ctr Instruction Data w u = refl
 first_ctr Data Instruction w u = refl

@@ -44,10 +44,10 @@ pub index_small : (c : ℕ) → index_of c < 32
 index_small c = mod_below _ (2 ^ 5) (pow_pos 5)
 
 pub kept_load : (j k : Kind) (w : ℕ) (past : List (Event (Page k))) (u : Mmu) → Kept k past u → Kept k (only j (load_event (shape j) w (half j u)) k ++ past) (loaded_unit j w u)
-kept_load Instruction Instruction w past u f = follows_load (shape Instruction) (zero_entry Instruction) past _ f _ _ (index_small u.instruction.ctr)
+kept_load Instruction Instruction w past u f = follows_load (shape Instruction) (zero_entry Instruction) past _ f _ _ (index_small u.instruction.registers.ctr)
 kept_load Instruction Data w past u f = f
 kept_load Data Instruction w past u f = f
-kept_load Data Data w past u f = follows_load (shape Data) (zero_entry Data) past _ f _ _ (index_small u.«data».ctr)
+kept_load Data Data w past u f = follows_load (shape Data) (zero_entry Data) past _ f _ _ (index_small u.«data».registers.ctr)
 
 -- register writes
 kept_write : (r : Register) (w : ℕ) (k : Kind) (past : List (Event (Page k))) (u : Mmu) → Kept k past u → Kept k (write_events r w u k ++ past) (register_written r w u)

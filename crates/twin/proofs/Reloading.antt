@@ -173,20 +173,20 @@ module _ (m : Meaning) (e w v : ℕ) (u : Mmu) (walk : Walks m u.twb e w v) (wor
   whole = let b = words (second_address w e) v (second_below w e) walk.second in and_mask v 32 ∙ omega arith
 
   -- the first word, through M_TWB
-  first_part : (fs : List Step) (held : ℕ) (x : Mmu) (t : State) → x.twb ≡ u.twb → x.«data».epn ≡ missed_epn e (space u) → Comes fs w (state_of (first_data w x) m) t → Comes (read 796 ∷ peek ∷ write 797 ∷ fs) held (state_of x m) t
+  first_part : (fs : List Step) (held : ℕ) (x : Mmu) (t : State) → x.twb ≡ u.twb → x.«data».registers.epn ≡ missed_epn e (space u) → Comes fs w (state_of (first_data w x) m) t → Comes (read 796 ∷ peek ∷ write 797 ∷ fs) held (state_of x m) t
   first_part fs held x t base epn c =
       let a = first_address u.twb e in
-      let at : first_address x.twb x.«data».epn ≡ a = (λ i. first_address (base i) (epn i)) ∙ ap (λ f. bit_and u.twb 0xfffff000 + 4 * f) (epn_first e (space u) (space_small u.casid)) in
+      let at : first_address x.twb x.«data».registers.epn ≡ a = (λ i. first_address (base i) (epn i)) ∙ ap (λ f. bit_and u.twb 0xfffff000 + 4 * f) (epn_first e (space u) (space_small u.casid)) in
       reads m t _ held x 796 Twb a refl at
       (peeks m t _ a x w walk.first
       (writes m t fs w x 797 (Twc Data) (first_data w x) refl (fits_twc Data) refl c))
 
   -- the second, through MD_TWC; it loads
-  second_part : (k : Kind) (n held : ℕ) (x : Mmu) → register_at n ≡ Some (Rpn k) → x.«data».twc ≡ bit_and w (kept_bits (Twc Data)) → x.«data».epn ≡ missed_epn e (space u) → Comes (read 797 ∷ peek ∷ write n ∷ []) held (state_of x m) (state_of (loaded_unit k v x) m)
+  second_part : (k : Kind) (n held : ℕ) (x : Mmu) → register_at n ≡ Some (Rpn k) → x.«data».registers.twc ≡ bit_and w (kept_bits (Twc Data)) → x.«data».registers.epn ≡ missed_epn e (space u) → Comes (read 797 ∷ peek ∷ write n ∷ []) held (state_of x m) (state_of (loaded_unit k v x) m)
   second_part k n held x is twc epn =
       let a = second_address w e in
       let t = state_of (loaded_unit k v x) m in
-      let at : second_address x.«data».twc x.«data».epn ≡ a =
+      let at : second_address x.«data».registers.twc x.«data».registers.epn ≡ a =
       (λ i. second_address (twc i) (epn i))
       ∙ ap (λ f. bit_and (bit_and w (kept_bits (Twc Data))) 0xfffff000 + 4 * f) (epn_second e (space u) (space_small u.casid))
       ∙ base_kept w e in

@@ -45,14 +45,14 @@ found_set f (y ∷ ys) (suc j) x n e p h = by_test (λ q. found_set f ys j x (n 
 half_answer : {P : Type 0} (s : Shape P) (z : Entry P) (h : Half P) (v e sp : ℕ) (problem : Bool) (a : Access) → slot_found s h e sp ≡ None → serves s e sp (loaded_entry s v h) ≡ true → length h.slots ≡ 32
     → found_answer s (loaded s v h) z (slot_found s (loaded s v h) e sp) problem a e ≡ answer_of (page_gives s (loaded_entry s v h).page (protection h) problem a e)
 half_answer s z h v e sp problem a none serving all =
-    let j = index_of h.ctr in
-    let small : j < length h.slots = omega (arith, index_small h.ctr, all) in
+    let j = index_of h.registers.ctr in
+    let small : j < length h.slots = omega (arith, index_small h.registers.ctr, all) in
     let found : slot_found s (loaded s v h) e sp ≡ Some (0 + j) = found_set (serves s e sp) h.slots j (loaded_entry s v h) 0 none serving small in
     let at : 0 + j ≡ j = omega arith in
-    let mode = index_mode (next_index (reserve h.ctr) j) h.ctr (next_small (reserve h.ctr) j) in
+    let mode = index_mode (next_index (reserve h.registers.ctr) j) h.registers.ctr (next_small (reserve h.registers.ctr) j) in
     let entry = get_or-set_same h.slots j (loaded_entry s v h) z small in
     ap (λ o. found_answer s (loaded s v h) z o problem a e) (found ∙ ap (λ k. Some k) at)
-    ∙ (λ i. answer_of (page_gives s (entry i).page (record { group_mode = mode i; ap = h.ap }) problem a e))
+    ∙ (λ i. answer_of (page_gives s (entry i).page (record { group_mode = mode i; ap = h.registers.ap }) problem a e))
 
 -- the reading is read off the walk
 module _ {P : Type 0} (makes : ℕ → ℕ → ℕ → P) (m : Meaning) (e : ℕ) where

@@ -66,27 +66,27 @@ module _ {P : Type 0} where
 -- through a list of requests that set no control register, the slot is not filled again
 module _ (k : Kind) (i : ℕ) (small : i < 32) (r : Bool) where
   pub record Turning (s : State) (vs : List (Event (Page k))) : Type 0 where
-    pub reserved : reserve (half k s.unit).ctr ≡ r
-    pub turn : Turn r i (loads_in vs) (index_of (half k s.unit).ctr)
+    pub reserved : reserve (half k s.unit).registers.ctr ≡ r
+    pub turn : Turn r i (loads_in vs) (index_of (half k s.unit).registers.ctr)
     pub fresh : refilled i vs ≡ false
 
-  one_step : (q : Request) (s : State) (vs : List (Event (Page k))) → Turning s vs → loads_in ((step q s).events k ++ vs) ≤ limit r → Moves (half k s.unit).ctr (half k (step q s).unit).ctr ((step q s).events k) → Turning (next q s) ((step q s).events k ++ vs)
+  one_step : (q : Request) (s : State) (vs : List (Event (Page k))) → Turning s vs → loads_in ((step q s).events k ++ vs) ≤ limit r → Moves (half k s.unit).registers.ctr (half k (step q s).unit).registers.ctr ((step q s).events k) → Turning (next q s) ((step q s).events k ++ vs)
   one_step q s vs t few (stands same none quiet) = record {
     reserved = ap reserve same ∙ t.reserved;
     turn =
         let count : loads_in ((step q s).events k ++ vs) ≡ loads_in vs = loads_append ((step q s).events k) vs ∙ omega (arith, none) in
-        subst (λ n. Turn r i n (index_of (half k (step q s).unit).ctr)) (sym count) (subst (λ c. Turn r i (loads_in vs) (index_of c)) (sym same) t.turn);
+        subst (λ n. Turn r i n (index_of (half k (step q s).unit).registers.ctr)) (sym count) (subst (λ c. Turn r i (loads_in vs) (index_of c)) (sym same) t.turn);
     fresh = refilled_append i ((step q s).events k) vs (quiet i) t.fresh;
   }
   one_step q s vs t few (turns x is moved) =
-      let c = (half k s.unit).ctr in
+      let c = (half k s.unit).registers.ctr in
       let below = next_small (reserve c) (index_of c) in
       let whole : (step q s).events k ++ vs ≡ Loaded (index_of c) x ∷ vs = ap (λ l. l ++ vs) is in
       let count : loads_in vs + 1 ≤ limit r = subst (λ l. loads_in l ≤ limit r) whole few in
       record {
         reserved = ap reserve moved ∙ reserve_set _ c below ∙ t.reserved;
         turn =
-            subst (λ l. Turn r i (loads_in l) (index_of (half k (step q s).unit).ctr)) (sym whole)
+            subst (λ l. Turn r i (loads_in l) (index_of (half k (step q s).unit).registers.ctr)) (sym whole)
             (subst (λ j. Turn r i (loads_in vs + 1) j) (sym (ap index_of moved ∙ index_set _ c below))
             (subst (λ b. Turn r i (loads_in vs + 1) (next_index b (index_of c))) (sym t.reserved) (turn_more r i (loads_in vs) (index_of c) t.turn)));
         fresh = subst (λ l. refilled i l ≡ false) (sym whole) (or_from _ _ (ne_eqb i (index_of c) (turn_apart r i (loads_in vs) (index_of c) t.turn count small)) t.fresh);
@@ -198,22 +198,22 @@ module _ (k : Kind) (m : Meaning) (rs between : List Request) (n e i : ℕ) (a :
   since = next (asks true n e) before
 
   reserved_now : Bool
-  reserved_now = reserve (half k since.unit).ctr
+  reserved_now = reserve (half k since.unit).registers.ctr
 
   -- the index as the load left it
-  first_turn : Moves (half k before.unit).ctr (half k since.unit).ctr ((step (asks true n e) before).events k) → (i < 32) × Turn reserved_now i 0 (index_of (half k since.unit).ctr)
+  first_turn : Moves (half k before.unit).registers.ctr (half k since.unit).registers.ctr ((step (asks true n e) before).events k) → (i < 32) × Turn reserved_now i 0 (index_of (half k since.unit).registers.ctr)
   unfolding before since reserved_now
   first_turn (stands same none quiet) = let w : ◌≡◌ {A = ℕ} 1 0 = sym (ap loads_in l.loads) ∙ none in absurd (omega arith)
   first_turn (turns y is moved) =
-      let c = (half k before.unit).ctr in
+      let c = (half k before.unit).registers.ctr in
       let at : i ≡ index_of c = (same_load i (index_of c) x y (sym l.loads ∙ is)).0 in
       let small : i < 32 = omega (arith, index_small c) in
       let below = next_small (reserve c) (index_of c) in
       let reserved : reserved_now ≡ reserve c = ap reserve moved ∙ reserve_set _ c below in
-      let index : index_of (half k since.unit).ctr ≡ next_index reserved_now i = ap index_of moved ∙ index_set _ c below ∙ (λ t. next_index (sym reserved t) (sym at t)) in
+      let index : index_of (half k since.unit).registers.ctr ≡ next_index reserved_now i = ap index_of moved ∙ index_set _ c below ∙ (λ t. next_index (sym reserved t) (sym at t)) in
       (small, subst (λ j. Turn reserved_now i 0 j) (sym index) (turn_first reserved_now i small))
 
-  stays_put : (t : (i < 32) × Turn reserved_now i 0 (index_of (half k since.unit).ctr)) → get_or (half k (after since between).unit).slots i (zero_entry k) ≡ x
+  stays_put : (t : (i < 32) × Turn reserved_now i 0 (index_of (half k since.unit).registers.ctr)) → get_or (half k (after since between).unit).slots i (zero_entry k) ≡ x
   unfolding before since reserved_now
   stays_put t =
       let h = history k since between in

@@ -26,7 +26,7 @@ translates Instruction m = m.instruction
 translates Data m = m.«data»
 
 abbrev pub protection : {P : Type 0} → Half P → Protection
-protection h = record { group_mode = group_mode h.ctr; ap = h.ap }
+protection h = record { group_mode = group_mode h.registers.ctr; ap = h.registers.ap }
 
 -- an entry matches an address in a space
 abbrev pub serves : {P : Type 0} → Shape P → ℕ → ℕ → Entry P → Bool
@@ -42,7 +42,7 @@ answer_of (Err f) = Refused f
 
 -- the grant with translation off
 abbrev pub plain_grant : {P : Type 0} → Half P → Access → ℕ → Grant
-plain_grant h a e = record { address = e; size = 0; cache_inhibit = default_inhibit h.ctr; write_through = through_for a (default_through h.ctr); guarded = false }
+plain_grant h a e = record { address = e; size = 0; cache_inhibit = default_inhibit h.registers.ctr; write_through = through_for a (default_through h.registers.ctr); guarded = false }
 
 -- the answer by the slot found
 abbrev pub found_answer : {P : Type 0} → Shape P → Half P → Entry P → Option ℕ → Bool → Access → ℕ → Answer

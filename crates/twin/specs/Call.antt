@@ -94,7 +94,7 @@ call_outcome (Mode p i d) u m = answered Done (with_mode p i d u) m
 call_outcome (Access n e) u m = access_outcome (access_of n) n e u m
 call_outcome (Resolve n e) u m = resolve_outcome (access_of n) n e u m
 call_outcome (Drop e) u m = record { reply = replies.Answer Done; unit = drop_unit e u; memory = m; events = λ j. Dropped e ∷ [] }
-call_outcome DropAll u m = record { reply = replies.Answer Done; unit = drop_all_unit u; memory = m; events = λ j. DroppedAll (reserve (half j u).ctr) ∷ [] }
+call_outcome DropAll u m = record { reply = replies.Answer Done; unit = drop_all_unit u; memory = m; events = λ j. DroppedAll (reserve (half j u).registers.ctr) ∷ [] }
 call_outcome Tally u m = answered (Value u.loads) u m
 
 abbrev pub outcome : Request → Mmu → Meaning → Outcome

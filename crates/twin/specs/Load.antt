@@ -28,7 +28,7 @@ module _ {P : Type 0} where
   ended x = record { live = false; space = x.space; page = x.page }
 
   abbrev pub with_slots : List (Entry P) → Half P → Half P
-  with_slots xs h = record { ctr = h.ctr; ap = h.ap; epn = h.epn; twc = h.twc; rpn = h.rpn; slots = xs }
+  with_slots xs h = record { registers = h.registers; slots = xs }
 
   -- the first 28 slots are ended, the last four if they are not spared
   abbrev pub all_ended : Bool → List (Entry P) → List (Entry P)
@@ -36,13 +36,13 @@ module _ {P : Type 0} where
   all_ended false xs = map ended xs
 
   abbrev pub drop_all_half : Half P → Half P
-  drop_all_half h = with_slots (all_ended (reserve h.ctr) h.slots) h
+  drop_all_half h = with_slots (all_ended (reserve h.registers.ctr) h.slots) h
 
   abbrev pub with_epn : ℕ → Half P → Half P
-  with_epn epn h = record { ctr = h.ctr; ap = h.ap; epn = epn; twc = h.twc; rpn = h.rpn; slots = h.slots }
+  with_epn epn h = record { registers = record { ctr = h.registers.ctr; ap = h.registers.ap; epn = epn; twc = h.registers.twc; rpn = h.registers.rpn }; slots = h.slots }
 
   abbrev pub with_twc : ℕ → Half P → Half P
-  with_twc twc h = record { ctr = h.ctr; ap = h.ap; epn = h.epn; twc = twc; rpn = h.rpn; slots = h.slots }
+  with_twc twc h = record { registers = record { ctr = h.registers.ctr; ap = h.registers.ap; epn = h.registers.epn; twc = twc; rpn = h.registers.rpn }; slots = h.slots }
 
   abbrev pub missed : ℕ → ℕ → Half P → Half P
   missed e space h = with_epn (missed_epn e space) h
@@ -57,21 +57,23 @@ module _ {P : Type 0} where
 
     -- the entry that a load of w makes
     abbrev pub loaded_entry : ℕ → Half P → Entry P
-    loaded_entry w h = entry_of s.made h.epn h.twc w
+    loaded_entry w h = entry_of s.made h.registers.epn h.registers.twc w
 
     -- a load of w: the slot at the index is filled, and the index counts down
     abbrev pub loaded : ℕ → Half P → Half P
     loaded w h = record {
-      ctr = with_index (next_index (reserve h.ctr) (index_of h.ctr)) h.ctr;
-      ap = h.ap;
-      epn = h.epn;
-      twc = h.twc;
-      rpn = w;
-      slots = slice_set h.slots (index_of h.ctr) (loaded_entry w h);
+      registers = record {
+        ctr = with_index (next_index (reserve h.registers.ctr) (index_of h.registers.ctr)) h.registers.ctr;
+        ap = h.registers.ap;
+        epn = h.registers.epn;
+        twc = h.registers.twc;
+        rpn = w;
+      };
+      slots = slice_set h.slots (index_of h.registers.ctr) (loaded_entry w h);
     }
 
     abbrev pub load_event : ℕ → Half P → Event P
-    load_event w h = Loaded (index_of h.ctr) (loaded_entry w h)
+    load_event w h = Loaded (index_of h.registers.ctr) (loaded_entry w h)
 
 -- how many slots a drop of all ends
 abbrev pub unspared : Bool → ℕ

@@ -155,7 +155,7 @@ pub record LoadedBy (k : Kind) (m : Meaning) (rs between : List Request) (n e i 
   pub loads : (step (asks true n e) (after (begin m) rs)).events k ≡ Loaded i x ∷ []
   pub undisturbed : disturbed (shape k) x.page (history k (next (asks true n e) (after (begin m) rs)) between) ≡ false
   pub unset : some_sets k between ≡ false
-  pub few : Few (loads_in (history k (next (asks true n e) (after (begin m) rs)) between)) (reserve (half k (next (asks true n e) (after (begin m) rs)).unit).ctr)
+  pub few : Few (loads_in (history k (next (asks true n e) (after (begin m) rs)) between)) (reserve (half k (next (asks true n e) (after (begin m) rs)).unit).registers.ctr)
 
 -- such a page is not missed: an access in it is no miss, and a resolve answers as the access does, and changes nothing
 pub record NotMissed (s : State) (n e : ℕ) : Type 0 where

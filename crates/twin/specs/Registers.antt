@@ -18,14 +18,14 @@ use Rattle.twin.specs.declared.unit.Half.{Half}
 use Rattle.twin.specs.declared.unit.Mmu.{Mmu}
 
 abbrev pub register_read : Register → Mmu → ℕ
-register_read (Ctr k) u = (half k u).ctr
-register_read (Ap k) u = (half k u).ap
-register_read (Epn k) u = (half k u).epn
-register_read (Twc Instruction) u = u.instruction.twc
-register_read (Twc Data) u = second_address u.«data».twc u.«data».epn
-register_read (Rpn k) u = (half k u).rpn
+register_read (Ctr k) u = (half k u).registers.ctr
+register_read (Ap k) u = (half k u).registers.ap
+register_read (Epn k) u = (half k u).registers.epn
+register_read (Twc Instruction) u = u.instruction.registers.twc
+register_read (Twc Data) u = second_address u.«data».registers.twc u.«data».registers.epn
+register_read (Rpn k) u = (half k u).registers.rpn
 register_read Casid u = u.casid
-register_read Twb u = first_address u.twb u.«data».epn
+register_read Twb u = first_address u.twb u.«data».registers.epn
 register_read Tw u = u.tw
 
 -- why a write is refused
@@ -44,10 +44,10 @@ misused Twb w = None
 misused Tw w = None
 
 abbrev pub with_ctr : {P : Type 0} → ℕ → Half P → Half P
-with_ctr c h = record { ctr = c; ap = h.ap; epn = h.epn; twc = h.twc; rpn = h.rpn; slots = h.slots }
+with_ctr c h = record { registers = record { ctr = c; ap = h.registers.ap; epn = h.registers.epn; twc = h.registers.twc; rpn = h.registers.rpn }; slots = h.slots }
 
 abbrev pub with_ap : {P : Type 0} → ℕ → Half P → Half P
-with_ap a h = record { ctr = h.ctr; ap = a; epn = h.epn; twc = h.twc; rpn = h.rpn; slots = h.slots }
+with_ap a h = record { registers = record { ctr = h.registers.ctr; ap = a; epn = h.registers.epn; twc = h.registers.twc; rpn = h.registers.rpn }; slots = h.slots }
 
 -- the other registers
 abbrev pub with_shared : ℕ → ℕ → ℕ → Mmu → Mmu

@@ -10,6 +10,7 @@ use Rattle.tlb.specs.declared.register.Kind.{Kind}
 use Rattle.tlb.specs.declared.register.Kind.TheVariants.{Instruction, Data}
 use Rattle.twin.specs.declared.unit.Half.{Half}
 use Rattle.twin.specs.declared.unit.Mmu.{Mmu}
+use Rattle.twin.specs.declared.unit.Registers.{Registers}
 
 -- the type of a kind's pages
 abbrev pub Page : Kind → Type 0
@@ -26,9 +27,17 @@ abbrev pub half : (k : Kind) → Mmu → Half (Page k)
 half Instruction u = u.instruction
 half Data u = u.«data»
 
+-- the words of a kind's registers
+abbrev pub registers : Kind → Mmu → Registers
+registers k u = (half k u).registers
+
 abbrev pub put : (k : Kind) → Half (Page k) → Mmu → Mmu
 put Instruction h u = record { instruction = h; «data» = u.«data»; casid = u.casid; twb = u.twb; tw = u.tw; mode = u.mode; loads = u.loads }
 put Data h u = record { instruction = u.instruction; «data» = h; casid = u.casid; twb = u.twb; tw = u.tw; mode = u.mode; loads = u.loads }
+
+-- the unit with other words there
+abbrev pub with_registers : Kind → Registers → Mmu → Mmu
+with_registers k r u = put k (record { registers = r; slots = (half k u).slots }) u
 
 -- the entry as if filled from zeros
 abbrev pub zero_entry : (k : Kind) → Entry (Page k)
@@ -36,7 +45,7 @@ zero_entry k = entry_of (shape k).made 0 0 0
 
 -- a half whose control register has this word, every slot as if filled from zeros
 abbrev pub fresh : {P : Type 0} → Shape P → ℕ → Half P
-fresh s ctr = record { ctr = ctr; ap = 0; epn = 0; twc = 0; rpn = 0; slots = replicate 32 (entry_of s.made 0 0 0) }
+fresh s ctr = record { registers = record { ctr = ctr; ap = 0; epn = 0; twc = 0; rpn = 0 }; slots = replicate 32 (entry_of s.made 0 0 0) }
 
 abbrev pub new_half : (k : Kind) → ℕ → Half (Page k)
 new_half k ctr = fresh (shape k) ctr

@@ -25,8 +25,8 @@ impl<P: Page> Half<P> {
         ensures { result ≡ protection self.now }
     {
         Protection {
-            group_mode: Control(self.ctr).group_mode(),
-            ap: self.ap,
+            group_mode: Control(self.registers.ctr).group_mode(),
+            ap: self.registers.ap,
         }
     }
 
@@ -34,7 +34,7 @@ impl<P: Page> Half<P> {
     fn plain(&self, attempt: Attempt) -> Grant
         ensures { result ≡ plain_grant self.now attempt.access attempt.address }
     {
-        let control = Control(self.ctr);
+        let control = Control(self.registers.ctr);
         Grant {
             address: attempt.address,
             size: 0,

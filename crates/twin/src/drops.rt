@@ -45,9 +45,13 @@ impl<P: Page> Half<P> {
 
     // How many slots a drop of all ends: under the reserve bit the last four are spared.
     fn unspared(&self) -> usize
-        ensures { result ≡ unspared (reserve self.now.ctr) }
+        ensures { result ≡ unspared (reserve self.now.registers.ctr) }
     {
-        if Control(self.ctr).reserve() { 28 } else { 32 }
+        if Control(self.registers.ctr).reserve() {
+            28
+        } else {
+            32
+        }
     }
 
     fn drop_all(&mut self)

@@ -4,7 +4,7 @@ ghost use Rattle.twin.specs.Access.{missed_unit};
 ghost use Rattle.twin.specs.Load.{missed_epn, missed, loaded};
 ghost use Rattle.twin.specs.Resolve.{loaded_unit};
 
-use crate::unit::{Half, Mmu};
+use crate::unit::{Half, Mmu, Registers};
 use tlb::control::{Control, next_index};
 use tlb::entry::Entry;
 use tlb::page::Page;
@@ -24,15 +24,15 @@ impl<P: Page> Half<P> {
     fn load(&mut self, word: u32)
         ensures { self.new ≡ loaded P.Page.shape word self.old }
     {
-        let control = Control(self.ctr);
+        let control = Control(self.registers.ctr);
         let index = control.index() as u8;
         self.slots[usize::from(index)] = Entry::made(Source {
-            epn: self.epn,
-            twc: self.twc,
+            epn: self.registers.epn,
+            twc: self.registers.twc,
             rpn: word,
         });
-        self.rpn = word;
-        self.ctr = control.with_index(next_index(index, control.reserve())).0;
+        self.registers.rpn = word;
+        self.registers.ctr = control.with_index(next_index(index, control.reserve())).0;
     }
 }
 
@@ -42,10 +42,8 @@ impl Mmu {
         ensures { self.new ≡ missed_unit kind address self.old }
     {
         let epn = missed_epn(address, self.space());
-        match kind {
-            Kind::Instruction => self.instruction.epn = epn,
-            Kind::Data => self.data.epn = epn,
-        }
+        let registers = self.registers(kind);
+        self.set_registers(kind, Registers { epn, ..registers });
     }
 
     // A load of a word that an RPN takes, by hand or by a resolve. The count of loads stops at the largest word.

@@ -73,7 +73,7 @@ impl<P: Page> Half<P> {
         ensures seen { result ≡ slot_seen self.old.slots slot (entry_of P.Page.shape.made 0 0 0) }
         ensures back { self.new ≡ self.old }
     {
-        pointed(&mut self.ctr, &self.slots, slot)
+        pointed(&mut self.registers.ctr, &self.slots, slot)
     }
 }
 

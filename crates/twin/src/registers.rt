@@ -7,7 +7,7 @@ ghost use Rattle.twin.specs.Call.{read_answer, write_outcome, with_mode};
 ghost use Rattle.twin.specs.declared.request.Reply.TheVariants as replies;
 ghost use Rattle.twin.specs.Registers.{register_read, kept_written, checked};
 
-use crate::unit::{Mmu, Mode};
+use crate::unit::{Mmu, Mode, Registers};
 use calls::fault::{Fault, Misuse};
 use mmu::walk::Table;
 use tlb::control::Control;
@@ -39,18 +39,17 @@ impl Mmu {
         ensures { result ≡ register_read register self.now }
     {
         match register {
-            Register::Ctr(Kind::Instruction) => self.instruction.ctr,
-            Register::Ctr(Kind::Data) => self.data.ctr,
-            Register::Ap(Kind::Instruction) => self.instruction.ap,
-            Register::Ap(Kind::Data) => self.data.ap,
-            Register::Epn(Kind::Instruction) => self.instruction.epn,
-            Register::Epn(Kind::Data) => self.data.epn,
-            Register::Twc(Kind::Instruction) => self.instruction.twc,
-            Register::Twc(Kind::Data) => Table::Second.place(self.data.twc, self.data.epn),
-            Register::Rpn(Kind::Instruction) => self.instruction.rpn,
-            Register::Rpn(Kind::Data) => self.data.rpn,
+            Register::Ctr(kind) => self.registers(kind).ctr,
+            Register::Ap(kind) => self.registers(kind).ap,
+            Register::Epn(kind) => self.registers(kind).epn,
+            Register::Twc(Kind::Instruction) => self.instruction.registers.twc,
+            Register::Twc(Kind::Data) => {
+                let Registers { twc, epn, .. } = self.data.registers;
+                Table::Second.place(twc, epn)
+            }
+            Register::Rpn(kind) => self.registers(kind).rpn,
             Register::Casid => self.casid,
-            Register::Twb => Table::First.place(self.twb, self.data.epn),
+            Register::Twb => Table::First.place(self.twb, self.data.registers.epn),
             Register::Tw => self.tw,
         }
     }
@@ -60,14 +59,46 @@ impl Mmu {
         ensures { self.new ≡ kept_written register word self.old }
     {
         match register {
-            Register::Ctr(Kind::Instruction) => self.instruction.ctr = word,
-            Register::Ctr(Kind::Data) => self.data.ctr = word,
-            Register::Ap(Kind::Instruction) => self.instruction.ap = word,
-            Register::Ap(Kind::Data) => self.data.ap = word,
-            Register::Epn(Kind::Instruction) => self.instruction.epn = word,
-            Register::Epn(Kind::Data) => self.data.epn = word,
-            Register::Twc(Kind::Instruction) => self.instruction.twc = word,
-            Register::Twc(Kind::Data) => self.data.twc = word,
+            Register::Ctr(kind) => {
+                let registers = self.registers(kind);
+                self.set_registers(
+                    kind,
+                    Registers {
+                        ctr: word,
+                        ..registers
+                    },
+                );
+            }
+            Register::Ap(kind) => {
+                let registers = self.registers(kind);
+                self.set_registers(
+                    kind,
+                    Registers {
+                        ap: word,
+                        ..registers
+                    },
+                );
+            }
+            Register::Epn(kind) => {
+                let registers = self.registers(kind);
+                self.set_registers(
+                    kind,
+                    Registers {
+                        epn: word,
+                        ..registers
+                    },
+                );
+            }
+            Register::Twc(kind) => {
+                let registers = self.registers(kind);
+                self.set_registers(
+                    kind,
+                    Registers {
+                        twc: word,
+                        ..registers
+                    },
+                );
+            }
             Register::Rpn(kind) => self.load(kind, word),
             Register::Casid => self.casid = word,
             Register::Twb => self.twb = word,

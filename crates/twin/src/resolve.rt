@@ -19,9 +19,9 @@ impl Mmu {
     fn keep_first(&mut self, kind: Kind, word: u32)
         ensures { self.new ≡ first_written kind word self.old }
     {
-        self.data.twc = Register::Twc(Kind::Data).keep(word);
+        self.data.registers.twc = Register::Twc(Kind::Data).keep(word);
         match kind {
-            Kind::Instruction => self.instruction.twc = Register::Twc(kind).keep(word),
+            Kind::Instruction => self.instruction.registers.twc = Register::Twc(kind).keep(word),
             Kind::Data => (),
         }
     }

@@ -1,20 +1,26 @@
 // The unit's state.
 ghost use Rattle.std.specs.Prelude.{◌≡◌, ◌<◌};
 ghost use Rattle.twin.specs.Access.{translates};
-ghost use Rattle.twin.specs.Unit.{fresh, new_unit, space};
+ghost use Rattle.twin.specs.Unit.{fresh, new_unit, registers, with_registers, space};
 
 use tlb::entry::Entry;
 use tlb::page::{DataPage, InstructionPage, Page};
 use tlb::register::{Kind, Register};
 
-// The registers and the slots of one kind.
-#[derive(Drop)]
-pub struct Half<P> {
+// The words of one kind's registers.
+#[derive(Clone, Copy, Debug, PartialEq, Eq)]
+pub struct Registers {
     pub ctr: u32,
     pub ap: u32,
     pub epn: u32,
     pub twc: u32,
     pub rpn: u32,
+}
+
+// The registers and the slots of one kind.
+#[derive(Drop)]
+pub struct Half<P> {
+    pub registers: Registers,
     pub slots: [Entry<P>; 32],
 }
 
@@ -44,12 +50,15 @@ impl<P: Page> Half<P> {
     fn new(ctr: u32) -> Half<P>
         ensures { result ≡ fresh P.Page.shape ctr }
     {
-        Half {
+        let registers = Registers {
             ctr,
             ap: 0,
             epn: 0,
             twc: 0,
             rpn: 0,
+        };
+        Half {
+            registers,
             slots: [Entry::zero(); 32],
         }
     }
@@ -85,6 +94,25 @@ impl Mmu {
             tw: 0,
             mode,
             loads: 0,
+        }
+    }
+
+    // The words of a kind's registers.
+    pub fn registers(&self, kind: Kind) -> Registers
+        ensures { result ≡ registers kind self.now }
+    {
+        match kind {
+            Kind::Instruction => self.instruction.registers,
+            Kind::Data => self.data.registers,
+        }
+    }
+
+    pub(crate) fn set_registers(&mut self, kind: Kind, registers: Registers)
+        ensures { self.new ≡ with_registers kind registers self.old }
+    {
+        match kind {
+            Kind::Instruction => self.instruction.registers = registers,
+            Kind::Data => self.data.registers = registers,
         }
     }
 
