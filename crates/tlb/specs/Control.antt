@@ -22,6 +22,10 @@ index_of ctr = field 19 23 ctr
 unfoldable pub with_index : ℕ → ℕ → ℕ
 with_index i ctr = ctr / 2 ^ 13 * 2 ^ 13 + i * 2 ^ 8 + ctr % 2 ^ 8
 
+-- how many slots are not reserved: under the reserve bit the last four are
+abbrev pub unreserved : Bool → ℕ
+unreserved reserved = cond reserved 28 32
+
 -- where the index goes after a load: down by one, round 32 slots or, under the reserve bit, round the first 28
 abbrev pub next_index : Bool → ℕ → ℕ
 next_index reserved i = cond reserved ((i + 27) % 28) ((i + 31) % 32)

@@ -1,7 +1,7 @@
 // Control registers and the index of the next load.
 ghost use Rattle.std.specs.Prelude.{◌≡◌, ◌%◌, ◌<◌};
 ghost use Rattle.tlb.specs.Bits.{flag};
-ghost use Rattle.tlb.specs.Control.{group_mode, default_inhibit, default_through, reserve, index_of, with_index, next_index, code_of};
+ghost use Rattle.tlb.specs.Control.{group_mode, default_inhibit, default_through, reserve, index_of, with_index, unreserved, next_index, code_of};
 
 use crate::bits::{bit, bits, clear_low};
 
@@ -76,11 +76,18 @@ impl Control {
     }
 }
 
+// How many slots are not reserved: under the reserve bit all but the last four.
+pub fn unreserved(reserved: bool) -> u8
+    ensures { result ≡ unreserved reserved }
+{
+    if reserved { 28 } else { 32 }
+}
+
 // The index after a load into slot `index`.
 pub fn next_index(index: u8, reserved: bool) -> u8
     ensures { result ≡ next_index reserved index }
 {
-    let slots = if reserved { 28 } else { 32 };
+    let slots = u16::from(unreserved(reserved));
     ((u16::from(index) + slots - 1) % slots) as u8
 }
 

@@ -5,7 +5,6 @@ pub mod Epns
 pub mod Examples
 pub mod Follows
 pub mod Grants
-pub mod Named
 pub mod Pages
 pub mod Ram
 pub mod Reloading

@@ -74,7 +74,3 @@ module _ {P : Type 0} where
 
     abbrev pub load_event : ℕ → Half P → Event P
     load_event w h = Loaded (index_of h.registers.ctr) (loaded_entry w h)
-
--- how many slots a drop of all ends
-abbrev pub unspared : Bool → ℕ
-unspared reserved = cond reserved 28 32

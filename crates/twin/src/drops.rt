@@ -1,11 +1,11 @@
 // Drops.
 ghost use Rattle.std.specs.Prelude.{◌≡◌, map};
-ghost use Rattle.tlb.specs.Control.{reserve};
+ghost use Rattle.tlb.specs.Control.{reserve, unreserved};
 ghost use Rattle.twin.specs.Call.{drop_unit, drop_all_unit};
-ghost use Rattle.twin.specs.Load.{unspared, ended, dropped, drop_half, drop_all_half};
+ghost use Rattle.twin.specs.Load.{ended, dropped, drop_half, drop_all_half};
 
 use crate::unit::{Half, Mmu};
-use tlb::control::Control;
+use tlb::control::{Control, unreserved};
 use tlb::entry::Entry;
 use tlb::page::Page;
 
@@ -45,13 +45,9 @@ impl<P: Page> Half<P> {
 
     // How many slots a drop of all ends: under the reserve bit the last four are spared.
     fn unspared(&self) -> usize
-        ensures { result ≡ unspared (reserve self.now.registers.ctr) }
+        ensures { result ≡ unreserved (reserve self.now.registers.ctr) }
     {
-        if Control(self.registers.ctr).reserve() {
-            28
-        } else {
-            32
-        }
+        usize::from(unreserved(Control(self.registers.ctr).reserve()))
     }
 
     fn drop_all(&mut self)

@@ -4,7 +4,7 @@ ghost use Rattle.twin.specs.Access.{missed_unit};
 ghost use Rattle.twin.specs.Load.{missed_epn, missed, loaded};
 ghost use Rattle.twin.specs.Resolve.{loaded_unit};
 
-use crate::unit::{Half, Mmu, Registers};
+use crate::unit::{Half, Mmu};
 use tlb::control::{Control, next_index};
 use tlb::entry::Entry;
 use tlb::page::Page;
@@ -42,8 +42,7 @@ impl Mmu {
         ensures { self.new ≡ missed_unit kind address self.old }
     {
         let epn = missed_epn(address, self.space());
-        let registers = self.registers(kind);
-        self.set_registers(kind, Registers { epn, ..registers });
+        self.change(kind, |registers| registers.epn = epn);
     }
 
     // A load of a word that an RPN takes, by hand or by a resolve. The count of loads stops at the largest word.

@@ -59,46 +59,10 @@ impl Mmu {
         ensures { self.new ≡ kept_written register word self.old }
     {
         match register {
-            Register::Ctr(kind) => {
-                let registers = self.registers(kind);
-                self.set_registers(
-                    kind,
-                    Registers {
-                        ctr: word,
-                        ..registers
-                    },
-                );
-            }
-            Register::Ap(kind) => {
-                let registers = self.registers(kind);
-                self.set_registers(
-                    kind,
-                    Registers {
-                        ap: word,
-                        ..registers
-                    },
-                );
-            }
-            Register::Epn(kind) => {
-                let registers = self.registers(kind);
-                self.set_registers(
-                    kind,
-                    Registers {
-                        epn: word,
-                        ..registers
-                    },
-                );
-            }
-            Register::Twc(kind) => {
-                let registers = self.registers(kind);
-                self.set_registers(
-                    kind,
-                    Registers {
-                        twc: word,
-                        ..registers
-                    },
-                );
-            }
+            Register::Ctr(kind) => self.change(kind, |registers| registers.ctr = word),
+            Register::Ap(kind) => self.change(kind, |registers| registers.ap = word),
+            Register::Epn(kind) => self.change(kind, |registers| registers.epn = word),
+            Register::Twc(kind) => self.change(kind, |registers| registers.twc = word),
             Register::Rpn(kind) => self.load(kind, word),
             Register::Casid => self.casid = word,
             Register::Twb => self.twb = word,

@@ -17,8 +17,8 @@ use calls::fault::Fault;
 
 #[derive(Drop)]
 pub struct Twin<'a, M> {
-    unit: Mmu,
-    memory: &'a mut M,
+    pub unit: Mmu,
+    pub memory: &'a mut M,
 }
 
 impl<'a, M: Memory> Twin<'a, M> {

@@ -1,5 +1,6 @@
 // The unit's state.
 ghost use Rattle.std.specs.Prelude.{◌≡◌, ◌<◌};
+ghost use Rattle.std.specs.Fn.{FnOnceReturnsAtMut};
 ghost use Rattle.twin.specs.Access.{translates};
 ghost use Rattle.twin.specs.Unit.{fresh, new_unit, registers, with_registers, space};
 
@@ -107,12 +108,15 @@ impl Mmu {
         }
     }
 
-    pub(crate) fn set_registers(&mut self, kind: Kind, registers: Registers)
-        ensures { self.new ≡ with_registers kind registers self.old }
+    // Changes a kind's registers, and nothing else.
+    pub(crate) fn change<F: FnOnce(&mut Registers)>(&mut self, kind: Kind, change: F)
+        requires { F.IsAlwaysCallable change }
+        ensures changed { FnOnceReturnsAtMut F.FnOnce change (registers kind self.old) tt (registers kind self.new) }
+        ensures same { self.new ≡ with_registers kind (registers kind self.new) self.old }
     {
         match kind {
-            Kind::Instruction => self.instruction.registers = registers,
-            Kind::Data => self.data.registers = registers,
+            Kind::Instruction => change(&mut self.instruction.registers),
+            Kind::Data => change(&mut self.data.registers),
         }
     }
 

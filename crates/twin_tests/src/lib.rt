@@ -5,3 +5,5 @@
 mod looks;
 #[cfg(test)]
 mod piles;
+#[cfg(test)]
+mod replies;

@@ -1,30 +1,12 @@
 // Looks at slots.
+use crate::replies::{seen, told};
 use board::ram::Ram;
 use calls::answer::Answer;
 use calls::call::Call;
 use calls::fault::Fault;
 use std::test::Fail;
-use tlb::entry::Entry;
-use tlb::page::DataPage;
-use twin::look::Seen;
-use twin::request::{Reply, Request};
+use twin::request::Request;
 use twin::twin::Twin;
-
-// The data entry that a reply tells of.
-fn seen(reply: Reply) -> Result<Entry<DataPage>, Fail> {
-    match reply {
-        Reply::Saw(Seen::Data(entry)) => Ok(entry),
-        _ => Err(Fail::new("no data entry")),
-    }
-}
-
-// The answer that a reply is.
-fn told(reply: Reply) -> Result<Answer, Fail> {
-    match reply {
-        Reply::Answer(answer) => Ok(answer),
-        _ => Err(Fail::new("no answer")),
-    }
-}
 
 // A page loaded in space 5 by a resolve is seen in slot 0, live and then ended; the index is where the load left it.
 #[test]
@@ -87,11 +69,11 @@ fn looks_are_refused_by_number(rt: HostRuntime) -> Result<(), Fail> {
         word: 0x0000_0700,
     });
     assert_eq!(rt;
-        told(twin.ask(Request::Look { kind: 2, slot: 32 }))?,
+        told(Some(&twin.ask(Request::Look { kind: 2, slot: 32 })))?,
         Answer::Refused(Fault::NoKind { kind: 2 })
     );
     assert_eq!(rt;
-        told(twin.ask(Request::Look { kind: 0, slot: 32 }))?,
+        told(Some(&twin.ask(Request::Look { kind: 0, slot: 32 })))?,
         Answer::Refused(Fault::NoSlot { slot: 32 })
     );
     assert_eq!(rt;

@@ -1,4 +1,5 @@
 // A life over a pile of banks: tables in ROM behind a bank, RAM elsewhere.
+use crate::replies::told;
 use board::bank::Bank;
 use board::bus::{BusFault, Refusal};
 use board::ram::Ram;
@@ -8,14 +9,7 @@ use calls::call::Call;
 use calls::fault::{Descriptor, Fault, Level};
 use std::test::Fail;
 use twin::life::live;
-use twin::request::{Reply, Request};
-
-fn told(reply: Option<&Reply>) -> Result<Answer, Fail> {
-    match reply {
-        Some(Reply::Answer(answer)) => Ok(*answer),
-        _ => Err(Fail::new("no answer")),
-    }
-}
+use twin::request::Request;
 
 // The first word stands at 0x8000 and the second at 0x9004, both in ROM, where a poke is refused; one in RAM is not.
 #[test]
