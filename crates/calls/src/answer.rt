@@ -1,6 +1,8 @@
 // How a call is answered.
 ghost use Rattle.std.specs.Prelude.{◌≡◌};
-ghost use Rattle.calls.specs.Answer.{done_answer, value_answer, grant_answer};
+ghost use Rattle.calls.specs.Answer.{granted, told_or_refused};
+ghost use Rattle.calls.specs.declared.answer.Answer.{Answer};
+ghost use Rattle.calls.specs.declared.answer.Answer.TheVariants.{Done, Value};
 
 use crate::fault::Fault;
 
@@ -29,38 +31,50 @@ pub enum Answer {
     Refused(Fault),
 }
 
-// What was done, or why it was not.
-impl From<Result<(), Fault>> for Answer {
-    ghost from_gives = { λ r a. a ≡ done_answer r };
+// What a call tells when it is not refused.
+pub trait Told {
+    ghost tells: { Self → Answer };
 
-    fn from(res: Result<(), Fault>) -> Answer {
-        match res {
-            Ok(()) => Answer::Done,
-            Err(fault) => Answer::Refused(fault),
+    fn told(self) -> Answer
+        ensures { result ≡ tells self };
+}
+
+impl Told for () {
+    ghost tells = { λ _. Done };
+
+    fn told(self) -> Answer {
+        Answer::Done
+    }
+}
+
+// A word read.
+impl Told for u32 {
+    ghost tells = { Value };
+
+    fn told(self) -> Answer {
+        Answer::Value(self)
+    }
+}
+
+// An access: no grant is a miss.
+impl Told for Option<Grant> {
+    ghost tells = { granted };
+
+    fn told(self) -> Answer {
+        match self {
+            Some(grant) => Answer::Granted(grant),
+            None => Answer::Miss,
         }
     }
 }
 
-// A word read, or why there is none.
-impl From<Result<u32, Fault>> for Answer {
-    ghost from_gives = { λ r a. a ≡ value_answer r };
+// What a call tells, or why it is refused.
+impl<T: Told> From<Result<T, Fault>> for Answer {
+    ghost from_gives = { λ r a. a ≡ told_or_refused T.tells r };
 
-    fn from(res: Result<u32, Fault>) -> Answer {
+    fn from(res: Result<T, Fault>) -> Answer {
         match res {
-            Ok(word) => Answer::Value(word),
-            Err(fault) => Answer::Refused(fault),
-        }
-    }
-}
-
-// An access: no grant and no fault is a miss.
-impl From<Result<Option<Grant>, Fault>> for Answer {
-    ghost from_gives = { λ r a. a ≡ grant_answer r };
-
-    fn from(res: Result<Option<Grant>, Fault>) -> Answer {
-        match res {
-            Ok(Some(grant)) => Answer::Granted(grant),
-            Ok(None) => Answer::Miss,
+            Ok(value) => value.told(),
             Err(fault) => Answer::Refused(fault),
         }
     }
