@@ -1,10 +1,13 @@
 // How a call is answered.
-ghost use Rattle.std.specs.Prelude.{◌≡◌};
+ghost use Rattle.std.specs.Prelude.{◌≡◌, Some};
 ghost use Rattle.calls.specs.Answer.{granted, told_or_refused};
 ghost use Rattle.calls.specs.declared.answer.Answer.{Answer};
 ghost use Rattle.calls.specs.declared.answer.Answer.TheVariants.{Done, Value};
+ghost use Rattle.calls.specs.Text.{grant_text, text_of};
 
 use crate::fault::Fault;
+use crate::hex::Hex;
+use std::fmt;
 
 // A granted access.
 #[derive(Clone, Copy, Debug, PartialEq, Eq)]
@@ -76,6 +79,34 @@ impl<T: Told> From<Result<T, Fault>> for Answer {
         match res {
             Ok(value) => value.told(),
             Err(fault) => Answer::Refused(fault),
+        }
+    }
+}
+
+// A mark that is set is 1, and one that is clear is 0.
+impl fmt::Display for Grant {
+    ghost output = { λ g. Some (grant_text g) };
+
+    fn fmt<W: fmt::Write>(&self, f: &mut fmt::Formatter<W>) -> fmt::Result {
+        let address = Hex(self.address);
+        let size = self.size;
+        let inhibit = u8::from(self.cache_inhibit);
+        let through = u8::from(self.write_through);
+        let guarded = u8::from(self.guarded);
+        write!(f, "(grant {address} {size} {inhibit} {through} {guarded})")
+    }
+}
+
+impl fmt::Display for Answer {
+    ghost output = { λ a. Some (text_of a) };
+
+    fn fmt<W: fmt::Write>(&self, f: &mut fmt::Formatter<W>) -> fmt::Result {
+        match self {
+            Answer::Done => write!(f, "(ok)"),
+            Answer::Value(word) => write!(f, "(value {})", Hex(*word)),
+            Answer::Miss => write!(f, "(miss)"),
+            Answer::Granted(grant) => write!(f, "{grant}"),
+            Answer::Refused(fault) => write!(f, "{fault}"),
         }
     }
 }

@@ -1,8 +1,11 @@
 // How a call is refused.
-ghost use Rattle.std.specs.Prelude.{◌≡◌};
+ghost use Rattle.std.specs.Prelude.{◌≡◌, Some};
 ghost use Rattle.calls.specs.Fault.{outside, figures_of, bus_number, descriptor_level};
+ghost use Rattle.calls.specs.Text.{layer_text, fault_text};
 
+use crate::hex::Hex;
 use board::bus::{BusFault, Refusal};
+use std::fmt;
 
 // Where in a tablewalk a fault arose.
 #[derive(Clone, Copy, Debug, PartialEq, Eq)]
@@ -170,5 +173,32 @@ impl From<BusFault> for Fault {
     fn from(fault: BusFault) -> Fault {
         let level = Level::Outside;
         Fault::Bus { fault, level }
+    }
+}
+
+impl fmt::Display for Layer {
+    ghost output = { λ l. Some (layer_text l) };
+
+    fn fmt<W: fmt::Write>(&self, f: &mut fmt::Formatter<W>) -> fmt::Result {
+        match self {
+            Layer::Unit => write!(f, "unit"),
+            Layer::Walk => write!(f, "walk"),
+            Layer::Bus => write!(f, "bus"),
+            Layer::Script => write!(f, "script"),
+        }
+    }
+}
+
+impl fmt::Display for Fault {
+    ghost output = { λ f. Some (fault_text f) };
+
+    fn fmt<W: fmt::Write>(&self, f: &mut fmt::Formatter<W>) -> fmt::Result {
+        let Figures {
+            number,
+            layer,
+            level,
+            place,
+        } = self.figures();
+        write!(f, "(no {number} {layer} {level} {})", Hex(place))
     }
 }

@@ -6,12 +6,12 @@ use Rattle.std.proofs.lemmas.Bool.{cond_both, ltb-true, ltb-false, lt-ltb, ne_eq
 use Rattle.std.proofs.lemmas.Bool.Decides.{nat_tests}
 use Rattle.calls.specs.declared.call.Call.{Call}
 use Rattle.calls.specs.declared.call.Call.TheVariants.{Poke, Peek, Write, Read, Mode, Access, Resolve, Drop, DropAll, Tally}
-use Rattle.text.specs.Canonical.{spaced, flag_word}
+use Rattle.calls.specs.Canonical.{spaced, flag_word}
 use Rattle.text.specs.Law.{ReadsBack}
 use Rattle.script.specs.Form.{with_rest, then, number_next, value_next, flag_next, flags, call_next, ended, body_of, form_of, line_of}
 use Rattle.script.specs.Number.{digit_value, read_on, small, number_of}
 use Rattle.script.specs.Pieces.{before, split}
-use Rattle.text.specs.Answers.{glyph, nibbles, eight}
+use Rattle.calls.specs.Hex.{glyph, nibbles, eight}
 
 -- no byte is the separator
 abbrev Whole : List ℕ → Type 0
