@@ -1,8 +1,9 @@
 -- What `{:08x}` writes of a word. Assumes nothing.
-use Rattle.std.proofs.Common.{◌≡◌, ℕ, zero, suc, ◌+◌, ◌-◌, ◌*◌, ◌/◌, ◌%◌, ◌^◌, ◌<◌, ◌≤◌, cond, false, List, [], ◌∷◌, ◌++◌, length, replicate, refl, sym, ap, ◌∙◌, subst, arith, append-nil}
+use Rattle.std.proofs.Common.{◌≡◌, ℕ, zero, suc, ◌+◌, ◌-◌, ◌*◌, ◌/◌, ◌%◌, ◌^◌, ◌<◌, ◌≤◌, false, List, [], ◌∷◌, ◌++◌, length, replicate, refl, sym, ap, ◌∙◌, subst, arith, append-nil}
 use Rattle.std.specs.Fmt.{digits, digits_onto, padded_integral, char_count, format_spec}
 use Rattle.std.proofs.Math.Nat.{zero-div}
-use Rattle.std.proofs.lemmas.Bool.{cases_lt, eq-eqb, ne_eqb}
+use Rattle.std.proofs.lemmas.Bool.{cases_lt}
+use Rattle.std.proofs.lemmas.Bool.Decides.{nat_tests}
 use Rattle.std.proofs.lemmas.Nat.{shr-shr}
 use mathlib.Core.Logic.{⊎_elim}
 use Rattle.calls.specs.Hex.{glyph, nibbles}
@@ -21,12 +22,12 @@ nibbles_zero (suc k) = (λ i. glyph (zero-div (2 ^ (4 * k)) i % 16) ∷ nibbles_
 
 -- one digit, or more
 one_digit : (i n : ℕ) (acc : List ℕ) → n < 16 → digits_onto (suc i) 16 false n acc ≡ glyph (n % 16) ∷ acc
-one_digit i n acc h = ap (λ t. cond t (glyph (n % 16) ∷ acc) (digits_onto i 16 false (n / 16) (glyph (n % 16) ∷ acc))) (eq-eqb (n / 16) 0 (omega arith))
+one_digit i n acc h = grind (arith, nat_tests)
 
 more_digits : (i n : ℕ) (acc : List ℕ) → 16 ≤ n → digits_onto (suc i) 16 false n acc ≡ digits_onto i 16 false (n / 16) (glyph (n % 16) ∷ acc)
-more_digits i n acc h = ap (λ t. cond t (glyph (n % 16) ∷ acc) (digits_onto i 16 false (n / 16) (glyph (n % 16) ∷ acc))) (ne_eqb (n / 16) 0 (λ e. omega arith))
+more_digits i n acc h = grind (arith, nat_tests)
 
--- the text d begins with the digits of n but for its zeros, and goes on with acc
+-- after its missing zeros, d is the k digits of n and then acc
 abbrev Fills : ℕ → ℕ → List ℕ → List ℕ → Type 0
 Fills k n acc d = replicate (k + length acc - length d) 48 ++ d ≡ nibbles k n ++ acc
 
@@ -34,9 +35,7 @@ one_fills : (k n : ℕ) (acc : List ℕ) → n < 16 → Fills (suc k) n acc (gly
 one_fills k n acc h =
     let high : n / 16 ≡ 0 = omega arith in
     let zeros : suc k + length acc - suc (length acc) ≡ k = omega arith in
-    ap (λ j. replicate j 48 ++ (glyph (n % 16) ∷ acc)) zeros
-    ∙ ap (λ l. l ++ (glyph (n % 16) ∷ acc)) (sym (ap (nibbles k) high ∙ nibbles_zero k))
-    ∙ sym (nibbles_low k n acc)
+    rw (zeros, nibbles_low k n acc, high, nibbles_zero k)
 
 onto_fills : (k i n : ℕ) (acc : List ℕ) → k < i → n < 16 ^ suc k → Fills (suc k) n acc (digits_onto i 16 false n acc)
 onto_fills k zero n acc fuel bound = absurd (omega arith)

@@ -56,7 +56,7 @@ pub enum Call {
 impl fmt::Display for Call {
     ghost output = { λ c. Some (canonical c) };
 
-    #[tactic(auto, using(crate::proofs::Flags::flag_text))]
+    #[tactic(auto, using(std::proofs::lemmas::Fmt::decimal_digit))]
     fn fmt<W: fmt::Write>(&self, f: &mut fmt::Formatter<W>) -> fmt::Result {
         match *self {
             Call::Poke { address, word } => write!(f, "(poke {} {})", Hex(address), Hex(word)),
