@@ -2,7 +2,7 @@
 use Rattle.std.proofs.Common.{◌≡◌, ℕ, List, [], ◌∷◌, ◌++◌, sym, ap, ◌∙◌, append_assoc}
 use Rattle.board.specs.Memory.{Meaning}
 use Rattle.script.specs.declared.line.Line.{Line}
-use Rattle.text.specs.Answers.{text_of}
+use Rattle.calls.specs.Text.{text_of}
 use Rattle.bench.specs.Account.{answer_to, left_by, account_text, left_after}
 
 module _ (m n : Meaning) (l : Line) (old ls : List Line) (first : old ≡ l ∷ ls) (next : n ≡ left_by m l) where

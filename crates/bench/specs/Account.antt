@@ -9,7 +9,7 @@ use Rattle.calls.specs.declared.fault.Fault.{Fault}
 use Rattle.calls.specs.declared.fault.Fault.TheVariants.{Unreadable}
 use Rattle.calls.specs.Answer.{peek_answer, poke_answer}
 use Rattle.script.specs.declared.line.Line.{Line}
-use Rattle.text.specs.Answers.{text_of}
+use Rattle.calls.specs.Text.{text_of}
 
 -- a call on line n; what asks a translation unit is not readable where there is none
 abbrev pub call_answer : Meaning → ℕ → Call → Answer

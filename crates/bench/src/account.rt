@@ -2,7 +2,7 @@
 ghost use Rattle.std.specs.Prelude.{◌≡◌, [], ◌∷◌, ◌++◌, IfOk, string_bytes, OnOk};
 ghost use Rattle.bench.specs.Account.{answer_to, left_by, account_text, left_after};
 ghost use Rattle.script.specs.Reader.{script_of};
-ghost use Rattle.text.specs.Answers.{text_of};
+ghost use Rattle.calls.specs.Text.{text_of};
 
 use board::memory::Memory;
 use calls::answer::Answer;

@@ -20,16 +20,21 @@ abbrev pub raised : {T : Type 0} → Result T BusFault → Result T Fault
 raised (Ok x) = Ok x
 raised (Err f) = Err (outside f)
 
+-- what a call tells, or why it is refused
+abbrev pub told_or_refused : {T : Type 0} → (T → Answer) → Result T Fault → Answer
+told_or_refused tells (Ok x) = tells x
+told_or_refused tells (Err f) = Refused f
+
 abbrev pub done_answer : Result (Unit {0}) Fault → Answer
-done_answer (Ok u) = Done
-done_answer (Err f) = Refused f
+done_answer = told_or_refused (λ _. Done)
 
 abbrev pub value_answer : Result ℕ Fault → Answer
-value_answer (Ok w) = Value w
-value_answer (Err f) = Refused f
+value_answer = told_or_refused Value
 
--- no grant and no fault is a miss
+-- no grant is a miss
+abbrev pub granted : Option Grant → Answer
+granted (Some g) = Granted g
+granted None = Miss
+
 abbrev pub grant_answer : Result (Option Grant) Fault → Answer
-grant_answer (Ok None) = Miss
-grant_answer (Ok (Some g)) = Granted g
-grant_answer (Err f) = Refused f
+grant_answer = told_or_refused granted

@@ -1,2 +1,5 @@
 pub mod Answer
+pub mod Canonical
 pub mod Fault
+pub mod Hex
+pub mod Text

@@ -1,8 +1,13 @@
 // How a call is answered.
-ghost use Rattle.std.specs.Prelude.{◌≡◌};
-ghost use Rattle.calls.specs.Answer.{done_answer, value_answer, grant_answer};
+ghost use Rattle.std.specs.Prelude.{◌≡◌, Some};
+ghost use Rattle.calls.specs.Answer.{granted, told_or_refused};
+ghost use Rattle.calls.specs.declared.answer.Answer.{Answer};
+ghost use Rattle.calls.specs.declared.answer.Answer.TheVariants.{Done, Value};
+ghost use Rattle.calls.specs.Text.{grant_text, text_of};
 
 use crate::fault::Fault;
+use crate::hex::Hex;
+use std::fmt;
 
 // A granted access.
 #[derive(Clone, Copy, Debug, PartialEq, Eq)]
@@ -29,39 +34,79 @@ pub enum Answer {
     Refused(Fault),
 }
 
-// What was done, or why it was not.
-impl From<Result<(), Fault>> for Answer {
-    ghost from_gives = { λ r a. a ≡ done_answer r };
+// What a call tells when it is not refused.
+pub trait Told {
+    ghost tells: { Self → Answer };
 
-    fn from(res: Result<(), Fault>) -> Answer {
+    fn told(self) -> Answer
+        ensures { result ≡ tells self };
+}
+
+impl Told for () {
+    ghost tells = { λ _. Done };
+
+    fn told(self) -> Answer {
+        Answer::Done
+    }
+}
+
+// A word read.
+impl Told for u32 {
+    ghost tells = { Value };
+
+    fn told(self) -> Answer {
+        Answer::Value(self)
+    }
+}
+
+// An access: no grant is a miss.
+impl Told for Option<Grant> {
+    ghost tells = { granted };
+
+    fn told(self) -> Answer {
+        match self {
+            Some(grant) => Answer::Granted(grant),
+            None => Answer::Miss,
+        }
+    }
+}
+
+// What a call tells, or why it is refused.
+impl<T: Told> From<Result<T, Fault>> for Answer {
+    ghost from_gives = { λ r a. a ≡ told_or_refused T.tells r };
+
+    fn from(res: Result<T, Fault>) -> Answer {
         match res {
-            Ok(()) => Answer::Done,
+            Ok(value) => value.told(),
             Err(fault) => Answer::Refused(fault),
         }
     }
 }
 
-// A word read, or why there is none.
-impl From<Result<u32, Fault>> for Answer {
-    ghost from_gives = { λ r a. a ≡ value_answer r };
+// A mark that is set is 1, and one that is clear is 0.
+impl fmt::Display for Grant {
+    ghost output = { λ g. Some (grant_text g) };
 
-    fn from(res: Result<u32, Fault>) -> Answer {
-        match res {
-            Ok(word) => Answer::Value(word),
-            Err(fault) => Answer::Refused(fault),
-        }
+    fn fmt<W: fmt::Write>(&self, f: &mut fmt::Formatter<W>) -> fmt::Result {
+        let address = Hex(self.address);
+        let size = self.size;
+        let inhibit = u8::from(self.cache_inhibit);
+        let through = u8::from(self.write_through);
+        let guarded = u8::from(self.guarded);
+        write!(f, "(grant {address} {size} {inhibit} {through} {guarded})")
     }
 }
 
-// An access: no grant and no fault is a miss.
-impl From<Result<Option<Grant>, Fault>> for Answer {
-    ghost from_gives = { λ r a. a ≡ grant_answer r };
+impl fmt::Display for Answer {
+    ghost output = { λ a. Some (text_of a) };
 
-    fn from(res: Result<Option<Grant>, Fault>) -> Answer {
-        match res {
-            Ok(Some(grant)) => Answer::Granted(grant),
-            Ok(None) => Answer::Miss,
-            Err(fault) => Answer::Refused(fault),
+    fn fmt<W: fmt::Write>(&self, f: &mut fmt::Formatter<W>) -> fmt::Result {
+        match self {
+            Answer::Done => write!(f, "(ok)"),
+            Answer::Value(word) => write!(f, "(value {})", Hex(*word)),
+            Answer::Miss => write!(f, "(miss)"),
+            Answer::Granted(grant) => write!(f, "{grant}"),
+            Answer::Refused(fault) => write!(f, "{fault}"),
         }
     }
 }

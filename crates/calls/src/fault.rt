@@ -1,15 +1,18 @@
 // How a call is refused.
-ghost use Rattle.std.specs.Prelude.{◌≡◌};
-ghost use Rattle.calls.specs.Fault.{outside, figures_of, level_number, bus_number, misuse_number, denial_number, descriptor_number, descriptor_level};
+ghost use Rattle.std.specs.Prelude.{◌≡◌, Some};
+ghost use Rattle.calls.specs.Fault.{outside, figures_of, bus_number, descriptor_level};
+ghost use Rattle.calls.specs.Text.{layer_text, fault_text};
 
+use crate::hex::Hex;
 use board::bus::{BusFault, Refusal};
+use std::fmt;
 
 // Where in a tablewalk a fault arose.
 #[derive(Clone, Copy, Debug, PartialEq, Eq)]
 pub enum Level {
-    Outside,
-    First,
-    Second,
+    Outside = 0,
+    First = 1,
+    Second = 2,
 }
 
 // What refused.
@@ -25,39 +28,39 @@ pub enum Layer {
 #[derive(Clone, Copy, Debug, PartialEq, Eq)]
 pub enum Misuse {
     // there is no register of that number
-    NoRegister,
+    NoRegister = 1,
     // a control register would get a mode that there is not
-    Mode,
+    Mode = 2,
     // a tablewalk control register would get a size that there is not
-    Size,
+    Size = 3,
     // the mark bits of a real page number are not all one
-    Marks,
+    Marks = 4,
 }
 
 // Why a page refuses an access that it matches, in the order in which the reasons are tested.
 #[derive(Clone, Copy, Debug, PartialEq, Eq)]
 pub enum Denial {
     // the page is not valid
-    Invalid,
+    Invalid = 6,
     // its access protection group refuses
-    Group,
+    Group = 7,
     // its rights refuse
-    Rights,
+    Rights = 8,
     // a store to a page that is not marked changed
-    Unchanged,
+    Unchanged = 9,
 }
 
 // Why a tablewalk stops at a descriptor that it has fetched.
 #[derive(Clone, Copy, Debug, PartialEq, Eq)]
 pub enum Descriptor {
     // the first word is not valid
-    FirstInvalid,
+    FirstInvalid = 10,
     // the first word has a page size that there is not
-    FirstSize,
+    FirstSize = 11,
     // the second word is not valid
-    SecondInvalid,
+    SecondInvalid = 12,
     // the second word's mark bits are not all one
-    SecondMarks,
+    SecondMarks = 13,
 }
 
 // A refusal with its place.
@@ -108,56 +111,7 @@ pub struct Figures {
     pub place: u32,
 }
 
-impl Level {
-    fn number(self) -> u32
-        ensures { result ≡ level_number self }
-    {
-        match self {
-            Level::Outside => 0,
-            Level::First => 1,
-            Level::Second => 2,
-        }
-    }
-}
-
-impl Misuse {
-    fn number(self) -> u32
-        ensures { result ≡ misuse_number self }
-    {
-        match self {
-            Misuse::NoRegister => 1,
-            Misuse::Mode => 2,
-            Misuse::Size => 3,
-            Misuse::Marks => 4,
-        }
-    }
-}
-
-impl Denial {
-    fn number(self) -> u32
-        ensures { result ≡ denial_number self }
-    {
-        match self {
-            Denial::Invalid => 6,
-            Denial::Group => 7,
-            Denial::Rights => 8,
-            Denial::Unchanged => 9,
-        }
-    }
-}
-
 impl Descriptor {
-    fn number(self) -> u32
-        ensures { result ≡ descriptor_number self }
-    {
-        match self {
-            Descriptor::FirstInvalid => 10,
-            Descriptor::FirstSize => 11,
-            Descriptor::SecondInvalid => 12,
-            Descriptor::SecondMarks => 13,
-        }
-    }
-
     fn level(self) -> Level
         ensures { result ≡ descriptor_level self }
     {
@@ -168,6 +122,7 @@ impl Descriptor {
     }
 }
 
+// The number of a memory's refusal, whose type lies below and has no numbers of its own.
 fn bus_number(refusal: Refusal) -> u32
     ensures { result ≡ bus_number refusal }
 {
@@ -183,58 +138,30 @@ impl Fault {
     pub fn figures(self) -> Figures
         ensures { result ≡ figures_of self }
     {
-        match self {
-            Fault::Register { misuse, register } => Figures {
-                number: misuse.number(),
-                layer: Layer::Unit,
-                level: 0,
-                place: register,
-            },
-            Fault::NoKind { kind } => Figures {
-                number: 5,
-                layer: Layer::Unit,
-                level: 0,
-                place: kind,
-            },
-            Fault::NoSlot { slot } => Figures {
-                number: 17,
-                layer: Layer::Unit,
-                level: 0,
-                place: slot,
-            },
-            Fault::Denied { denial, address } => Figures {
-                number: denial.number(),
-                layer: Layer::Unit,
-                level: 0,
-                place: address,
-            },
+        let (number, layer, level, place) = match self {
+            Fault::Register { misuse, register } => {
+                (misuse as u32, Layer::Unit, Level::Outside, register)
+            }
+            Fault::NoKind { kind } => (5, Layer::Unit, Level::Outside, kind),
+            Fault::NoSlot { slot } => (17, Layer::Unit, Level::Outside, slot),
+            Fault::Denied { denial, address } => {
+                (denial as u32, Layer::Unit, Level::Outside, address)
+            }
             Fault::Walk {
                 descriptor,
                 address,
-            } => Figures {
-                number: descriptor.number(),
-                layer: Layer::Walk,
-                level: descriptor.level().number(),
-                place: address,
-            },
-            Fault::Bus { fault, level } => Figures {
-                number: bus_number(fault.refusal),
-                layer: Layer::Bus,
-                level: level.number(),
-                place: fault.address,
-            },
-            Fault::Unreadable { line } => Figures {
-                number: 18,
-                layer: Layer::Script,
-                level: 0,
-                place: line,
-            },
-            Fault::TooLong => Figures {
-                number: 19,
-                layer: Layer::Script,
-                level: 0,
-                place: 0,
-            },
+            } => (descriptor as u32, Layer::Walk, descriptor.level(), address),
+            Fault::Bus { fault, level } => {
+                (bus_number(fault.refusal), Layer::Bus, level, fault.address)
+            }
+            Fault::Unreadable { line } => (18, Layer::Script, Level::Outside, line),
+            Fault::TooLong => (19, Layer::Script, Level::Outside, 0),
+        };
+        Figures {
+            number,
+            layer,
+            level: level as u32,
+            place,
         }
     }
 }
@@ -246,5 +173,32 @@ impl From<BusFault> for Fault {
     fn from(fault: BusFault) -> Fault {
         let level = Level::Outside;
         Fault::Bus { fault, level }
+    }
+}
+
+impl fmt::Display for Layer {
+    ghost output = { λ l. Some (layer_text l) };
+
+    fn fmt<W: fmt::Write>(&self, f: &mut fmt::Formatter<W>) -> fmt::Result {
+        match self {
+            Layer::Unit => write!(f, "unit"),
+            Layer::Walk => write!(f, "walk"),
+            Layer::Bus => write!(f, "bus"),
+            Layer::Script => write!(f, "script"),
+        }
+    }
+}
+
+impl fmt::Display for Fault {
+    ghost output = { λ f. Some (fault_text f) };
+
+    fn fmt<W: fmt::Write>(&self, f: &mut fmt::Formatter<W>) -> fmt::Result {
+        let Figures {
+            number,
+            layer,
+            level,
+            place,
+        } = self.figures();
+        write!(f, "(no {number} {layer} {level} {})", Hex(place))
     }
 }

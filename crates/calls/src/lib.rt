@@ -4,3 +4,4 @@
 pub mod answer;
 pub mod call;
 pub mod fault;
+pub mod hex;

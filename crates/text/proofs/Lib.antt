@@ -1,3 +1,1 @@
-pub mod Flags
 pub mod Returns
-pub mod Texts

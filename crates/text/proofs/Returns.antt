@@ -1,17 +1,17 @@
 -- A call's canonical form reads back as that call. Assumes nothing.
-use Rattle.std.proofs.Common.{◌≡◌, ℕ, zero, suc, ◌+◌, ◌-◌, ◌*◌, ◌/◌, ◌%◌, ◌^◌, ◌<◌, Bool, true, false, cond, not, ◌&&◌, eqb, ltb, List, [], ◌∷◌, ◌++◌, length, get_or, take, Some, None, codes, Option, refl, ap, ◌∙◌, arith}
+use Rattle.std.proofs.Common.{rules, ◌≡◌, ℕ, zero, suc, ◌+◌, ◌-◌, ◌*◌, ◌/◌, ◌%◌, ◌^◌, ◌<◌, Bool, true, false, cond, eqb, ltb, List, [], ◌∷◌, ◌++◌, length, get_or, take, Some, None, codes, Option, refl, ap, ◌∙◌, arith}
 use Rattle.std.proofs.lemmas.Nat.{shr-shr}
 use Rattle.std.proofs.lemmas.List.{length-append, get_or_at, take_at}
-use Rattle.std.proofs.lemmas.Bool.{cond_both, ltb-true, ltb-false, lt-ltb, ne_eqb, eqb-false, and_parts, not-true}
+use Rattle.std.proofs.lemmas.Bool.{lt-ltb, ne_eqb}
 use Rattle.std.proofs.lemmas.Bool.Decides.{nat_tests}
 use Rattle.calls.specs.declared.call.Call.{Call}
 use Rattle.calls.specs.declared.call.Call.TheVariants.{Poke, Peek, Write, Read, Mode, Access, Resolve, Drop, DropAll, Tally}
-use Rattle.text.specs.Canonical.{spaced, flag_word}
+use Rattle.calls.specs.Canonical.{spaced, flag_word}
 use Rattle.text.specs.Law.{ReadsBack}
 use Rattle.script.specs.Form.{with_rest, then, number_next, value_next, flag_next, flags, call_next, ended, body_of, form_of, line_of}
 use Rattle.script.specs.Number.{digit_value, read_on, small, number_of}
 use Rattle.script.specs.Pieces.{before, split}
-use Rattle.text.specs.Answers.{glyph, nibbles, eight}
+use Rattle.calls.specs.Hex.{glyph, nibbles, eight}
 
 -- no byte is the separator
 abbrev Whole : List ℕ → Type 0
@@ -44,13 +44,10 @@ body_between xs =
     ∙ (λ i. cond (eqb (get_or_at xs 41 [] 0 (length xs) refl i) 41) (Some (take_at xs (41 ∷ []) (length xs) refl i)) None)
 
 glyph_whole : (n : ℕ) → glyph n ≡ 32 → ⊥
-glyph_whole n = cond_both (ltb n 10) (48 + n) (87 + n) (λ x. x ≡ 32 → ⊥) (λ e h. omega arith) (λ e h. omega arith)
+glyph_whole n e = grind (arith, nat_tests)
 
 digit_glyph : (n : ℕ) → n < 16 → digit_value (glyph n) ≡ n
-digit_glyph n h =
-    cond_both (ltb n 10) (48 + n) (87 + n) (λ x. digit_value x ≡ n)
-    (λ e. let below = ltb-true n 10 e in grind (arith, nat_tests))
-    (λ e. let above = ltb-false n 10 e in grind (arith, nat_tests))
+digit_glyph n h = grind (arith, nat_tests)
 
 glyph_read : (n x : ℕ) (ds : List ℕ) → x < 16 → read_on 16 n (glyph x ∷ ds) ≡ read_on 16 (n * 16 + x) ds
 glyph_read n x ds h =
@@ -67,7 +64,7 @@ read_nibbles a (suc k) n e =
     let next : 4 * suc k ≡ 4 * k + 4 = omega arith in
     nibble a (4 * k) n (nibbles k a) (e ∙ ap (λ j. a / 2 ^ j) next) ∙ read_nibbles a k (a / 2 ^ (4 * k)) refl
 
-pub number_eight : (a : ℕ) → a < 2 ^ 32 → number_of (eight a) ≡ Some a
+number_eight : (a : ℕ) → a < 2 ^ 32 → number_of (eight a) ≡ Some a
 number_eight a h = ap small (read_nibbles a 8 0 (omega arith)) ∙ ap (λ t. cond t (Some a) None) (lt-ltb a (2 ^ 32) h)
 
 nibbles_whole : (k a : ℕ) → Whole (nibbles k a)
@@ -75,32 +72,21 @@ nibbles_whole zero a = tt
 nibbles_whole (suc k) a = (glyph_whole (a / 2 ^ (4 * k) % 16), nibbles_whole k a)
 
 eight_whole : (a : ℕ) → Whole (eight a)
-eight_whole a = (λ e. omega arith, (λ e. omega arith, nibbles_whole 8 a))
-
--- a test that the checker computes
-spaceless : List ℕ → Bool
-spaceless [] = true
-spaceless (b ∷ bs) = not (eqb b 32) && spaceless bs
-
-from_test : (w : List ℕ) → spaceless w ≡ true → Whole w
-unfolding spaceless
-from_test [] e = tt
-from_test (b ∷ bs) e = let p = and_parts (not (eqb b 32)) (spaceless bs) e in (eqb-false b 32 (not-true (eqb b 32) p.0), from_test bs p.1)
+eight_whole a = search (rules, nibbles_whole)
 
 flag_whole : (b : Bool) → Whole (flag_word b)
-flag_whole true = (λ e. omega arith, tt)
-flag_whole false = (λ e. omega arith, tt)
+flag_whole b = search rules
 
 -- a line of words reads as those words do
 from_words : (w : List ℕ) (ws : List (List ℕ)) → AllWhole (w ∷ ws) → line_of (40 ∷ (spaced (w ∷ ws) ++ 41 ∷ [])) ≡ then (call_next (w ∷ ws)) ended
 from_words w ws h = ap form_of (body_between (spaced (w ∷ ws))) ∙ ap (λ l. then (call_next l) ended) (split_spaced w ws h)
 
-module _ (name : List ℕ) (whole : spaceless name ≡ true) where
+module _ (name : List ℕ) (whole : Whole name) where
   one_reads : (a : ℕ) → line_of (40 ∷ (spaced (name ∷ eight a ∷ []) ++ 41 ∷ [])) ≡ then (call_next (name ∷ eight a ∷ [])) ended
-  one_reads a = from_words name (eight a ∷ []) (from_test name whole, (eight_whole a, tt))
+  one_reads a = from_words name (eight a ∷ []) (whole, (eight_whole a, tt))
 
   two_read : (a b : ℕ) → line_of (40 ∷ (spaced (name ∷ eight a ∷ eight b ∷ []) ++ 41 ∷ [])) ≡ then (call_next (name ∷ eight a ∷ eight b ∷ [])) ended
-  two_read a b = from_words name (eight a ∷ eight b ∷ []) (from_test name whole, (eight_whole a, (eight_whole b, tt)))
+  two_read a b = from_words name (eight a ∷ eight b ∷ []) (whole, (eight_whole a, (eight_whole b, tt)))
 
 -- from two numbers that are read, the second by itself or as a value, to the call that is made of them
 module _ (next : List (List ℕ) → Option (ℕ × List (List ℕ))) (same : (w : ℕ) → next (eight w ∷ []) ≡ with_rest (number_of (eight w)) []) where
@@ -120,16 +106,15 @@ flags_read p i d =
     ∙ ap (λ o. then o (λ z rest. Some (Mode p i z, rest))) (flag_read d [])
 
 pub reads_back : ReadsBack
-unfolding spaceless
-reads_back (Poke a w) h = two_read (codes "poke") refl a w ∙ both_read value_next (λ _. refl) Poke a w h.0 h.1
-reads_back (Peek a) h = one_reads (codes "peek") refl a ∙ ap (λ o. then (then (with_rest o []) (λ n rest. Some (Peek n, rest))) ended) (number_eight a h)
-reads_back (Write n w) h = two_read (codes "write") refl n w ∙ both_read value_next (λ _. refl) Write n w h.0 h.1
-reads_back (Read n) h = one_reads (codes "read") refl n ∙ ap (λ o. then (then (with_rest o []) (λ m rest. Some (Read m, rest))) ended) (number_eight n h)
+reads_back (Poke a w) h = two_read (codes "poke") (search rules) a w ∙ both_read value_next (λ _. refl) Poke a w h.0 h.1
+reads_back (Peek a) h = one_reads (codes "peek") (search rules) a ∙ ap (λ o. then (then (with_rest o []) (λ n rest. Some (Peek n, rest))) ended) (number_eight a h)
+reads_back (Write n w) h = two_read (codes "write") (search rules) n w ∙ both_read value_next (λ _. refl) Write n w h.0 h.1
+reads_back (Read n) h = one_reads (codes "read") (search rules) n ∙ ap (λ o. then (then (with_rest o []) (λ m rest. Some (Read m, rest))) ended) (number_eight n h)
 reads_back (Mode p i d) h =
-    from_words (codes "mode") (flag_word p ∷ flag_word i ∷ flag_word d ∷ []) (from_test (codes "mode") refl, (flag_whole p, (flag_whole i, (flag_whole d, tt))))
+    from_words (codes "mode") (flag_word p ∷ flag_word i ∷ flag_word d ∷ []) (search rules, (flag_whole p, (flag_whole i, (flag_whole d, tt))))
     ∙ ap (λ o. then o ended) (flags_read p i d)
-reads_back (Access k e) h = two_read (codes "access") refl k e ∙ both_read number_next (λ _. refl) Access k e h.0 h.1
-reads_back (Resolve k e) h = two_read (codes "resolve") refl k e ∙ both_read number_next (λ _. refl) Resolve k e h.0 h.1
-reads_back (Drop e) h = one_reads (codes "drop") refl e ∙ ap (λ o. then (then (with_rest o []) (λ n rest. Some (Drop n, rest))) ended) (number_eight e h)
-reads_back DropAll h = from_words (codes "dropall") [] (from_test (codes "dropall") refl, tt)
-reads_back Tally h = from_words (codes "tally") [] (from_test (codes "tally") refl, tt)
+reads_back (Access k e) h = two_read (codes "access") (search rules) k e ∙ both_read number_next (λ _. refl) Access k e h.0 h.1
+reads_back (Resolve k e) h = two_read (codes "resolve") (search rules) k e ∙ both_read number_next (λ _. refl) Resolve k e h.0 h.1
+reads_back (Drop e) h = one_reads (codes "drop") (search rules) e ∙ ap (λ o. then (then (with_rest o []) (λ n rest. Some (Drop n, rest))) ended) (number_eight e h)
+reads_back DropAll h = from_words (codes "dropall") [] (search rules, tt)
+reads_back Tally h = from_words (codes "tally") [] (search rules, tt)

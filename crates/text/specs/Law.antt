@@ -2,7 +2,7 @@
 use Rattle.std.specs.Prelude.{◌≡◌, ◌^◌, ◌<◌, Some}
 use Rattle.calls.specs.declared.call.Call.{Call}
 use Rattle.calls.specs.declared.call.Call.TheVariants.{Poke, Peek, Write, Read, Mode, Access, Resolve, Drop, DropAll, Tally}
-use Rattle.text.specs.Canonical.{canonical}
+use Rattle.calls.specs.Canonical.{canonical}
 use Rattle.script.specs.Form.{line_of}
 
 -- every number of the call has 32 bits, as all that the code holds have

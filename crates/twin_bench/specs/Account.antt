@@ -5,7 +5,7 @@ use Rattle.calls.specs.declared.answer.Answer.TheVariants.{Done, Refused}
 use Rattle.calls.specs.declared.call.Call as calls
 use Rattle.calls.specs.declared.fault.Fault.{Fault}
 use Rattle.script.specs.declared.line.Line.{Line}
-use Rattle.text.specs.Answers.{text_of}
+use Rattle.calls.specs.Text.{text_of}
 use Rattle.twin.specs.Life.{State, step, next}
 use Rattle.twin.specs.declared.request.Reply.{Reply}
 use Rattle.twin.specs.declared.request.Reply.TheVariants as replies

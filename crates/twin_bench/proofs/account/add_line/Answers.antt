@@ -1,7 +1,7 @@
 use Rattle.std.proofs.Common.{◌≡◌, [], ◌∷◌, ◌++◌, string_bytes, refl, ap, ◌∙◌, append_assoc}
 use lib.Utf8.{encode}
 use Rattle.std.proofs.lemmas.Slice.{pushed}
-use Rattle.text.specs.Answers.{text_of}
+use Rattle.calls.specs.Text.{text_of}
 use Rattle.twin_bench.proofs.account.add_line.Goals as goal
 
 pub returns : goal.returns
