@@ -4,7 +4,7 @@ ghost use Rattle.std.specs.Option.{option_map};
 ghost use Rattle.script.specs.Form.{closed_part, with_rest, number_next, closing_next, flag_next, segment_of, page_of, segment_next, page_next, value_next, operands_of, call_next, body_of, form_of, line_of};
 ghost use Rattle.script.specs.Pieces.{left};
 
-use crate::name::{Name, is};
+use crate::name::Name;
 use crate::number::number;
 use crate::pieces::Pieces;
 use calls::call::Call;
@@ -101,14 +101,13 @@ impl<'a> Words<'a> {
         ensures { value_next (left self.old.pieces) ≡ with_rest result (left self.new.pieces) }
     {
         let word = self.pieces.next()?;
-        if is(word, b"(seg") {
-            self.segment()
-        } else if is(word, b"(page") {
-            self.page()
-        } else {
-            number(word)
+        match word {
+            b"(seg" => self.segment(),
+            b"(page" => self.page(),
+            _ => number(word),
         }
     }
+
     // What follows the name.
     fn operands(&mut self, name: Name) -> Option<Call>
         ensures { operands_of name (left self.old.pieces) ≡ with_rest result (left self.new.pieces) }
