@@ -1,3 +1,4 @@
+pub mod AnswerLine
 pub mod Answers
 pub mod Canonical
 pub mod Law
