@@ -1,7 +1,7 @@
 // What both programs share: a script comes from standard input, its account goes to standard output.
 #![tactic(auto)]
 
-ghost use Rattle.std.specs.Prelude.{◌≡◌, IfOk, IfSome, replicate};
+ghost use Rattle.std.specs.Prelude.{◌≡◌, IfOk, IfSome, Ok, OnOk, replicate};
 ghost use Rattle.script.specs.Reader.{script_of};
 
 use script::reader::LONGEST;
@@ -28,12 +28,14 @@ pub fn new_ram(heap: Global) -> Result<Vec<u8>, AllocError>
     vec![in heap; 0u8; RAM]
 }
 
-// Reads a script from standard input, runs it over a new RAM, and prints the account.
+// Reads a script from standard input, runs it over a new RAM, and prints the account. What is printed is what `account`
+// told of a script over bytes that are all zero.
 pub fn run<R, F>(rt: &R, account: F) -> io::Result<()>
 where
     R: Input + Print + AllocGlobal,
     F: FnOnce(Global, &mut [u8], &[u8]) -> Result<String, AllocError>,
     requires { F.IsAlwaysCallable account }
+    ensures { OnOk result ((heap : _) × (bytes : _) × (script : _) × (text : _) × (left : _) × (bytes.now ≡ replicate 32768 0) × F.post account heap bytes script (Ok text) left) }
 {
     let heap = rt.alloc();
     let script = read_script(heap, rt.reader())?;
