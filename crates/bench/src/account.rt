@@ -1,8 +1,7 @@
 // The account of a script: one line for each line that it tells of.
-ghost use Rattle.std.specs.Prelude.{◌≡◌, [], ◌∷◌, ◌++◌, IfOk, string_bytes, OnOk};
+ghost use Rattle.std.specs.Prelude.{◌≡◌, IfOk, string_bytes, OnOk};
 ghost use Rattle.bench.specs.Account.{answer_to, left_by, account_text, left_after};
 ghost use Rattle.script.specs.Reader.{script_of};
-ghost use Rattle.calls.specs.Text.{text_of};
 
 use board::memory::Memory;
 use calls::answer::Answer;
@@ -11,7 +10,7 @@ use calls::fault::Fault;
 use script::line::Line;
 use script::reader::Reader;
 use std::alloc::{AllocError, Global};
-use text::answers::answer_text;
+use text::answer_line::add_answer;
 
 // The answer to one line. Forms that ask a translation unit are not readable here.
 fn answer<M: Memory>(memory: &mut M, line: Line) -> Answer
@@ -33,24 +32,6 @@ fn answer<M: Memory>(memory: &mut M, line: Line) -> Answer
     }
 }
 
-// Answers one line, and adds the answer's text and a newline to the account.
-fn tell<M: Memory>(
-    heap: Global,
-    memory: &mut M,
-    line: Line,
-    out: &mut String,
-) -> Result<(), AllocError>
-    ensures text { OnOk result (string_bytes out.new ≡ string_bytes out.old ++ (text_of (answer_to (M.Memory.meaning memory.old) line) ++ 10 ∷ [])) }
-    ensures left { M.Memory.meaning memory.new ≡ left_by (M.Memory.meaning memory.old) line }
-    ensures same { M.Memory.spare memory.new ≡ M.Memory.spare memory.old }
-{
-    let answer = answer(memory, line);
-    let text = answer_text(heap, answer)?;
-    out.push_str(text.as_str())?;
-    out.push('\n')?;
-    Ok(())
-}
-
 // The account of a whole script, run over a memory. Where memory for the text is wanting, the pokes of some of the first
 // lines may have been done.
 pub fn account_of<M: Memory>(
@@ -63,9 +44,9 @@ pub fn account_of<M: Memory>(
     ensures same { M.Memory.spare memory.new ≡ M.Memory.spare memory.old }
 {
     let mut out = String::new(heap);
-    let mut reader = Reader::new(script);
-    while let Some(line) = reader.next() {
-        tell(heap, memory, line, &mut out)?;
+    for line in Reader::new(script) {
+        let answer = answer(memory, line);
+        add_answer(heap, answer, &mut out)?;
     }
     Ok(out)
 }

@@ -1,26 +1,15 @@
-// Reads a script from standard input, runs it, and prints the account.
+// Reads a script from standard input, runs it over memory alone, and prints the account.
 #![tactic(auto)]
 
 mod account;
 
 use account::account_of;
 use board::ram::Ram;
-use script::reader::LONGEST;
+use console::run;
 use std::io;
-use std::io::Read;
-
-// The bytes of RAM, all zero at the start.
-const RAM: usize = 32_768;
 
 fn main(rt: HostRuntime) -> io::Result<()> {
-    let heap = rt.alloc();
-    let mut script = Vec::new(heap);
-    // one byte more than is read tells that there is more
-    rt.stdin()
-        .take(LONGEST as u64 + 1)
-        .read_to_end(&mut script)?;
-    let mut bytes = vec![in heap; 0u8; RAM]?;
-    let mut memory = Ram::new(bytes.as_mut_slice());
-    let text = account_of(heap, &mut memory, script.as_slice())?;
-    rt.print(text)
+    run(&rt, |heap, bytes, script| {
+        account_of(heap, &mut Ram::new(bytes), script)
+    })
 }

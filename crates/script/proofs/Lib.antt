@@ -1,3 +1,2 @@
 pub mod Cuts
-pub mod Forms
 pub mod Numerals

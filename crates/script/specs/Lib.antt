@@ -1,7 +1,6 @@
 pub mod Form
 pub mod Name
 pub mod Number
-pub mod Pending
 pub mod Pieces
 pub mod Reader
 pub mod Room

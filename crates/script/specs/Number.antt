@@ -5,6 +5,13 @@ use Rattle.std.specs.Prelude.{ℕ, ◌+◌, ◌-◌, ◌*◌, ◌^◌, Bool, con
 abbrev pub digit_value : ℕ → ℕ
 digit_value b = cond (nat_le 48 b && nat_le b 57) (b - 48) (cond (nat_le 97 b && nat_le b 102) (b - 97 + 10) 16)
 
+-- what a byte counts as a digit of the base, if it is one
+abbrev pub counted : ℕ → ℕ → Option ℕ
+counted base n = cond (nat_lt n base) (Some n) None
+
+abbrev pub digit_of : ℕ → ℕ → Option ℕ
+digit_of base b = cond (nat_le 48 b && nat_le b 57) (counted base (b - 48)) (cond (nat_le 97 b && nat_le b 102) (counted base (b - 97 + 10)) None)
+
 -- the digits read on from n, if all are digits of the base
 abbrev pub read_on : ℕ → ℕ → List ℕ → Option ℕ
 read_on base n [] = Some n

@@ -1,5 +1,6 @@
 -- A whole script. Assumes nothing.
-use Rattle.std.specs.Prelude.{ℕ, ◌+◌, Bool, true, false, cond, List, [], ◌∷◌, length, Some, None, Err, Option, ◌==◌, nat_le}
+use Rattle.std.specs.Prelude.{ℕ, ◌+◌, cond, List, [], ◌∷◌, length, Err, Option, ◌==◌, nat_le}
+use Rattle.std.specs.List.{cons_option}
 use Rattle.std.specs.Option.{ok_or}
 use Rattle.calls.specs.declared.fault.Fault.TheVariants.{Unreadable, TooLong}
 use Rattle.script.specs.declared.line.Line.{Line}
@@ -27,22 +28,6 @@ too_long = record { number = 0; call = Err TooLong }
 abbrev pub script_of : List ℕ → List Line
 script_of bs = cond (nat_le (length bs) longest) (readings 1 (split 10 bs)) (too_long ∷ [])
 
--- what is still to be told: whether the script is too long, the next line's number, and the lines
-abbrev pub upcoming : Bool → ℕ → List (List ℕ) → List Line
-upcoming true n ls = too_long ∷ readings n ls
-upcoming false n ls = readings n ls
-
--- the first line as it stands, with its number
-abbrev pub next_line : ℕ → List (List ℕ) → Option (ℕ × List ℕ)
-next_line n [] = None
-next_line n (l ∷ ls) = Some (n, l)
-
--- the number behind it
-abbrev pub next_number : ℕ → List (List ℕ) → ℕ
-next_number n [] = n
-next_number n (l ∷ ls) = n + 1
-
--- the lines before one was taken, if any was
-abbrev pub listed : Option Line → List Line → List Line
-listed None ls = []
-listed (Some l) ls = l ∷ ls
+-- what is still to be told: what stands before the lines, and the lines, the first of them having number n
+abbrev pub upcoming : Option Line → ℕ → List (List ℕ) → List Line
+upcoming pending n ls = cons_option pending (readings n ls)

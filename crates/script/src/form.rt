@@ -2,15 +2,14 @@
 ghost use Rattle.std.specs.Prelude.{◌≡◌, Some};
 ghost use Rattle.std.specs.Option.{option_map};
 ghost use Rattle.script.specs.Form.{closed_part, with_rest, number_next, closing_next, flag_next, segment_of, page_of, segment_next, page_next, value_next, operands_of, call_next, body_of, form_of, line_of};
-ghost use Rattle.script.specs.Pieces.{left};
 
-use crate::name::{Name, is};
+use crate::name::Name;
 use crate::number::number;
 use crate::pieces::Pieces;
 use calls::call::Call;
 
 // The words of a form that are still to be read.
-#[derive(Clone, Copy)]
+#[derive(Drop)]
 struct Words<'a> {
     pieces: Pieces<'a>,
 }
@@ -50,7 +49,7 @@ fn second_level(base: u32, rest: u32) -> Option<u32>
 impl<'a> Words<'a> {
     // A number.
     fn number(&mut self) -> Option<u32>
-        ensures { number_next (left self.old.pieces) ≡ with_rest result (left self.new.pieces) }
+        ensures { number_next self.old.pieces ≡ with_rest result self.new.pieces }
     {
         let word = self.pieces.next()?;
         number(word)
@@ -58,7 +57,7 @@ impl<'a> Words<'a> {
 
     // A number with a closing bracket behind it.
     fn closing(&mut self) -> Option<u32>
-        ensures { closing_next (left self.old.pieces) ≡ with_rest result (left self.new.pieces) }
+        ensures { closing_next self.old.pieces ≡ with_rest result self.new.pieces }
     {
         let word = self.pieces.next()?;
         let digits = closed(word)?;
@@ -67,7 +66,7 @@ impl<'a> Words<'a> {
 
     // 0 or 1.
     fn flag(&mut self) -> Option<bool>
-        ensures { flag_next (left self.old.pieces) ≡ with_rest result (left self.new.pieces) }
+        ensures { flag_next self.old.pieces ≡ with_rest result self.new.pieces }
     {
         let number = self.number()?;
         match number {
@@ -79,7 +78,7 @@ impl<'a> Words<'a> {
 
     // B g s), a first-level descriptor.
     fn segment(&mut self) -> Option<u32>
-        ensures { segment_next (left self.old.pieces) ≡ with_rest result (left self.new.pieces) }
+        ensures { segment_next self.old.pieces ≡ with_rest result self.new.pieces }
     {
         let base = self.number()?;
         let group = self.number()?;
@@ -89,7 +88,7 @@ impl<'a> Words<'a> {
 
     // B r), a second-level descriptor.
     fn page(&mut self) -> Option<u32>
-        ensures { page_next (left self.old.pieces) ≡ with_rest result (left self.new.pieces) }
+        ensures { page_next self.old.pieces ≡ with_rest result self.new.pieces }
     {
         let base = self.number()?;
         let rest = self.closing()?;
@@ -98,20 +97,19 @@ impl<'a> Words<'a> {
 
     // A number or a descriptor.
     fn value(&mut self) -> Option<u32>
-        ensures { value_next (left self.old.pieces) ≡ with_rest result (left self.new.pieces) }
+        ensures { value_next self.old.pieces ≡ with_rest result self.new.pieces }
     {
         let word = self.pieces.next()?;
-        if is(word, b"(seg") {
-            self.segment()
-        } else if is(word, b"(page") {
-            self.page()
-        } else {
-            number(word)
+        match word {
+            b"(seg" => self.segment(),
+            b"(page" => self.page(),
+            _ => number(word),
         }
     }
+
     // What follows the name.
     fn operands(&mut self, name: Name) -> Option<Call>
-        ensures { operands_of name (left self.old.pieces) ≡ with_rest result (left self.new.pieces) }
+        ensures { operands_of name self.old.pieces ≡ with_rest result self.new.pieces }
     {
         match name {
             Name::Poke => {
@@ -163,7 +161,7 @@ impl<'a> Words<'a> {
 
     // The form's name and what follows it.
     fn call(&mut self) -> Option<Call>
-        ensures { call_next (left self.old.pieces) ≡ with_rest result (left self.new.pieces) }
+        ensures { call_next self.old.pieces ≡ with_rest result self.new.pieces }
     {
         let word = self.pieces.next()?;
         let name = Name::of(word)?;

@@ -1,31 +1,29 @@
 // Numbers.
-ghost use Rattle.std.specs.Prelude.{◌≡◌};
-ghost use Rattle.script.specs.Number.{digit_value, numeral, number_of};
+ghost use Rattle.std.specs.Prelude.{◌≡◌, ◌≤◌};
+ghost use Rattle.script.specs.Number.{digit_of, numeral, number_of};
 
-// What a digit of any base up to 16 counts, or 16 for any other byte. Letters are lower case.
-fn digit(byte: u8) -> u32
-    ensures { result ≡ digit_value byte }
+// What a digit of a base up to 16 counts. Letters are lower case alone: `char::to_digit` would take capitals too.
+fn digit(byte: u8, base: u32) -> Option<u32>
+    ensures { result ≡ digit_of base byte }
 {
-    match byte {
+    let counted = match byte {
         b'0'..=b'9' => (byte - b'0') as u32,
         b'a'..=b'f' => (byte - b'a') as u32 + 10,
-        _ => 16,
-    }
+        _ => return None,
+    };
+    if counted < base { Some(counted) } else { None }
 }
 
-// The number that the digits write in the base.
+// The number that the digits write in a base up to 16.
 fn value(digits: &[u8], base: u32) -> Option<u32>
-    ensures { result ≡ numeral base digits.now }
+    ensures { base ≤ 16 → result ≡ numeral base digits.now }
 {
     if digits.is_empty() {
         return None;
     }
     let mut value: u32 = 0;
     for byte in digits {
-        let next = digit(*byte);
-        if next >= base {
-            return None;
-        }
+        let next = digit(*byte, base)?;
         value = value.checked_mul(base)?.checked_add(next)?;
     }
     Some(value)

@@ -1,14 +1,13 @@
 // Scripts, line by line.
-ghost use Rattle.std.specs.Prelude.{◌≡◌, ◌+◌, ◌≤◌};
-ghost use Rattle.std.specs.Option.{option_map};
-ghost use Rattle.script.specs.Pieces.{left, behind};
-ghost use Rattle.script.specs.Reader.{readings, script_of, upcoming, listed, next_line, next_number};
-ghost use Rattle.script.specs.Room.{weight};
+ghost use Rattle.std.specs.Prelude.{◌≡◌};
+ghost use Rattle.std.specs.Iterator.{YieldsFirst, item_count};
+ghost use Rattle.script.specs.Reader.{script_of, line_at};
 
 use crate::form::call_of;
 use crate::line::Line;
 use crate::pieces::Pieces;
 use calls::fault::Fault;
+use std::marker::Model;
 
 // The longest script, in bytes.
 pub const LONGEST: usize = 65_536;
@@ -16,66 +15,71 @@ pub const LONGEST: usize = 65_536;
 // A cursor over the lent script.
 #[derive(Drop)]
 pub struct Reader<'a> {
+    // what is told before the lines: that the script is too long
+    pending: Option<Line>,
     // the lines that are still to be read
     lines: Pieces<'a>,
     // the number of the next of them
     number: u32,
-    // that the script is too long is still to be told
-    too_long: bool,
-    ghost room: { number + weight (left lines) ≤ 65538 },
+}
+
+// It is seen as the list of what it has still to tell.
+impl<'a> Model for Reader<'a> {
+    ghost use Rattle.std.specs.Prelude.{◌+◌, ◌≤◌, List};
+    ghost use Rattle.script.specs.declared.line.Line.{Line};
+    ghost use Rattle.script.specs.Reader.{upcoming};
+    ghost use Rattle.script.specs.Room.{weight};
+
+    ghost Value = { List Line };
+
+    ghost view = { λ r. upcoming r.pending r.number r.lines };
+
+    ghost invariant = { λ r. r.number + weight r.lines ≤ 65538 };
+}
+
+// What a line that is not empty reads as.
+fn read(number: u32, bytes: &[u8]) -> Line
+    ensures { result ≡ line_at number bytes.now }
+{
+    let call = call_of(bytes).ok_or(Fault::Unreadable { line: number });
+    Line { number, call }
 }
 
 impl<'a> Reader<'a> {
     // A cursor before the first line.
     pub fn new(script: &'a [u8]) -> Reader<'a>
-        ensures { upcoming result.too_long result.number (left result.lines) ≡ script_of script.now }
+        ensures { result ≡ script_of script.now }
     {
         let too_long = script.len() > LONGEST;
         let kept = if too_long { &script[0..0] } else { script };
-        let lines = Pieces::new(kept, b'\n');
+        let call = Err(Fault::TooLong);
         Reader {
-            lines,
+            pending: too_long.then_some(Line { number: 0, call }),
+            lines: Pieces::new(kept, b'\n'),
             number: 1,
-            too_long,
         }
     }
+}
 
-    // The next line with its number, empty or not.
-    fn take(&mut self) -> Option<(u32, &'a [u8])>
-        ensures line { option_map (λ p. (p.0, p.1.now)) result ≡ next_line self.old.number (left self.old.lines) }
-        ensures lines { left self.new.lines ≡ behind (left self.old.lines) }
-        ensures same { self.new.too_long ≡ self.old.too_long }
-        ensures number { self.new.number ≡ next_number self.old.number (left self.old.lines) }
-    {
-        let bytes = self.lines.next()?;
-        let number = self.number;
-        self.number = number + 1;
-        Some((number, bytes))
-    }
+// Tells of a script that is too long that alone, and of any other its lines that are not empty.
+impl<'a> Iterator for Reader<'a> {
+    type Item = Line;
 
-    // What the next line that is not empty reads as.
-    fn next_line(&mut self) -> Option<Line>
-        ensures lines { readings self.old.number (left self.old.lines) ≡ listed result (readings self.new.number (left self.new.lines)) }
-        ensures same { self.new.too_long ≡ self.old.too_long }
-    {
-        while let Some((number, bytes)) = self.take() {
+    ghost next_gives = { YieldsFirst (λ reader. reader) };
+
+    ghost remaining = { item_count (λ reader. reader) };
+
+    fn next(&mut self) -> Option<Line> {
+        if let Some(line) = self.pending.take() {
+            return Some(line);
+        }
+        while let Some(bytes) = self.lines.next() {
+            let number = self.number;
+            self.number += 1;
             if !bytes.is_empty() {
-                let call = call_of(bytes).ok_or(Fault::Unreadable { line: number });
-                return Some(Line { number, call });
+                return Some(read(number, bytes));
             }
         }
         None
-    }
-
-    // What is told next: of a script that is too long that alone, of any other its lines that are not empty.
-    pub fn next(&mut self) -> Option<Line>
-        ensures { upcoming self.old.too_long self.old.number (left self.old.lines) ≡ listed result (upcoming self.new.too_long self.new.number (left self.new.lines)) }
-    {
-        if self.too_long {
-            self.too_long = false;
-            let call = Err(Fault::TooLong);
-            return Some(Line { number: 0, call });
-        }
-        self.next_line()
     }
 }

@@ -1,1 +1,2 @@
+pub mod AnswerLine
 pub mod Law

@@ -5,7 +5,7 @@ use Rattle.calls.specs.declared.answer.Answer.TheVariants.{Done, Refused}
 use Rattle.calls.specs.declared.call.Call as calls
 use Rattle.calls.specs.declared.fault.Fault.{Fault}
 use Rattle.script.specs.declared.line.Line.{Line}
-use Rattle.calls.specs.Text.{text_of}
+use Rattle.text.specs.AnswerLine.{line_text}
 use Rattle.twin.specs.Life.{State, step, next}
 use Rattle.twin.specs.declared.request.Reply.{Reply}
 use Rattle.twin.specs.declared.request.Reply.TheVariants as replies
@@ -28,9 +28,6 @@ read_next s (Ok c) = next (requests.Call c) s
 read_next s (Err f) = s
 
 -- one line of text for each line that is told of
-abbrev pub line_text : Answer → List ℕ
-line_text a = text_of a ++ 10 ∷ []
-
 abbrev pub account_text : State → List Line → List ℕ
 account_text s [] = []
 account_text s (l ∷ ls) = line_text (read_answer s l.call) ++ account_text (read_next s l.call) ls

@@ -6,7 +6,8 @@ use Rattle.calls.specs.declared.call.Call as calls
 use Rattle.calls.specs.declared.fault.Fault.{Fault}
 use Rattle.script.specs.declared.line.Line.{Line}
 use Rattle.twin.specs.declared.request.Reply.{Reply}
-use Rattle.twin_bench.specs.Account.{answer_in, line_text}
+use Rattle.text.specs.AnswerLine.{line_text}
+use Rattle.twin_bench.specs.Account.{answer_in}
 
 -- the next reply as an answer, and the replies behind it
 abbrev pub next_answer : List Reply → Answer

@@ -1,7 +1,8 @@
 // The account of a script: one line for each line that it tells of.
-ghost use Rattle.std.specs.Prelude.{◌≡◌, ◌⊎◌, [], ◌∷◌, ◌++◌, IfOk, string_bytes, MatchResult, OnOk};
+ghost use Rattle.std.specs.Prelude.{◌≡◌, ◌⊎◌, [], ◌++◌, IfOk, string_bytes, MatchResult, OnOk};
+ghost use Rattle.std.specs.Slice.Iter.{iter_rest};
 ghost use Rattle.board.specs.Ram.{ram};
-ghost use Rattle.twin_bench.specs.Account.{answer_in, line_text, account_text, read_request, requests_of};
+ghost use Rattle.twin_bench.specs.Account.{answer_in, account_text, read_request, requests_of};
 ghost use Rattle.twin_bench.specs.Telling.{told_answer, told_behind, told};
 ghost use Rattle.script.specs.Reader.{script_of};
 ghost use Rattle.twin.specs.Bytes.{ram_after};
@@ -11,7 +12,8 @@ use calls::answer::Answer;
 use script::line::Line;
 use script::reader::Reader;
 use std::alloc::{AllocError, Global};
-use text::answers::answer_text;
+use std::slice::Iter;
+use text::answer_line::add_answer;
 use twin::life::live_in_ram;
 use twin::request::{Reply, Request};
 
@@ -19,12 +21,7 @@ use twin::request::{Reply, Request};
 fn lines_of(heap: Global, script: &[u8]) -> Result<Vec<Line>, AllocError>
     ensures { IfOk result (λ v. v.items ≡ script_of script.now) }
 {
-    let mut lines = Vec::new(heap);
-    let mut reader = Reader::new(script);
-    while let Some(line) = reader.next() {
-        lines.push(line)?;
-    }
-    Ok(lines)
+    Reader::new(script).collect(heap)
 }
 
 // Adds the call of a line that reads.
@@ -58,28 +55,17 @@ fn answer_in(reply: Reply) -> Answer
     }
 }
 
-// The answer to a line, and the replies that are left for the others: a call takes the first reply, a fault takes none.
-fn answer_to<'a>(line: Line, replies: &'a [Reply]) -> (Answer, &'a [Reply])
-    ensures answer { result.0 ≡ told_answer line.call replies.now }
-    ensures left { result.1.now ≡ told_behind line.call replies.now }
+// The answer to a line: a call takes the next reply, a fault takes none.
+fn answer_to(line: Line, replies: &mut Iter<Reply>) -> Answer
+    ensures answer { result ≡ told_answer line.call (iter_rest replies.old) }
+    ensures left { iter_rest replies.new ≡ told_behind line.call (iter_rest replies.old) }
 {
     match line.call {
-        Err(fault) => (Answer::Refused(fault), replies),
-        Ok(_) => match replies {
-            [] => (Answer::Done, replies),
-            [first, left @ ..] => (answer_in(*first), left),
-        },
+        Err(fault) => Answer::Refused(fault),
+        Ok(_) => replies
+            .next()
+            .map_or(Answer::Done, |reply| answer_in(*reply)),
     }
-}
-
-// Adds the text of an answer and a newline.
-fn add_line(heap: Global, answer: Answer, out: &mut String) -> Result<(), AllocError>
-    ensures { OnOk result (string_bytes out.new ≡ string_bytes out.old ++ line_text answer) }
-{
-    let text = answer_text(heap, answer)?;
-    out.push_str(text.as_str())?;
-    out.push('\n')?;
-    Ok(())
 }
 
 // The text of all answers, in the order of the lines.
@@ -87,11 +73,10 @@ fn tell(heap: Global, lines: &[Line], replies: &[Reply]) -> Result<String, Alloc
     ensures { IfOk result (λ t. string_bytes t ≡ told lines.now replies.now) }
 {
     let mut out = String::new(heap);
-    let mut rest = replies;
+    let mut rest = replies.iter();
     for line in lines {
-        let (answer, left) = answer_to(*line, rest);
-        add_line(heap, answer, &mut out)?;
-        rest = left;
+        let answer = answer_to(*line, &mut rest);
+        add_answer(heap, answer, &mut out)?;
     }
     Ok(out)
 }

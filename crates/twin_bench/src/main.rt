@@ -4,21 +4,9 @@
 mod account;
 
 use account::account_of;
-use script::reader::LONGEST;
+use console::run;
 use std::io;
-use std::io::Read;
-
-// The bytes of RAM, all zero at the start.
-const RAM: usize = 32_768;
 
 fn main(rt: HostRuntime) -> io::Result<()> {
-    let heap = rt.alloc();
-    let mut script = Vec::new(heap);
-    // one byte more than is read tells that there is more
-    rt.stdin()
-        .take(LONGEST as u64 + 1)
-        .read_to_end(&mut script)?;
-    let mut bytes = vec![in heap; 0u8; RAM]?;
-    let text = account_of(heap, bytes.as_mut_slice(), script.as_slice())?;
-    rt.print(text)
+    run(&rt, account_of)
 }

@@ -1,22 +1,20 @@
-use Rattle.std.proofs.Common.{◌+◌, ◌∷◌, length, take, sym, ◌∙◌, arith}
-use native.Mathlib.Nat.{sub-zero}
-use Rattle.std.proofs.lemmas.Slice.{between_to_end}
-use Rattle.script.specs.Pieces.{split}
-use Rattle.script.proofs.Cuts.{uncut_none, uncut_more, cut_here, cut_nowhere}
+use Rattle.std.proofs.Common.{◌≡◌, rules, tests, eqb, sym, ◌∙◌, arith}
+use Rattle.std.specs.List.{position}
+use Rattle.std.proofs.lemmas.Grind.{common_steps}
+use Rattle.std.proofs.lemmas.Iterator.{YieldsList-from_slice}
+use Rattle.std.proofs.lemmas.Iterator.Search.{position_from_yields_List}
+use Rattle.script.proofs.Cuts.{cut_none, cut_some}
 use Rattle.script.proofs.pieces.cut.Goals as goal
 
-pub loop-i-init : goal.loop-i-init
-loop-i-init c = uncut_none c.args.separator c.args.bytes.now
-
-pub loop-i-preserved : goal.loop-i-preserved
-loop-i-preserved c = uncut_more _ c.args.bytes.now c.loop-i.i c.loop-i-test.true c.if-byte-separator.false c.loop-i.invariant
-
-pub returns-then-byte-separator : goal.returns-then-byte-separator
-returns-then-byte-separator c =
+pub returns-in-Some : goal.returns-in-Some
+returns-in-Some c =
     let bytes = c.args.bytes.now in
-    let i = c.loop-i.i in
-    cut_here _ bytes i c.loop-i-test.true c.if-byte-separator.true c.loop-i.invariant
-    ∙ (λ k. take (sym (sub-zero i) k) bytes ∷ split c.args.separator (sym (between_to_end bytes (i + 1) (length bytes) (omega arith)) k))
+    let at : c.position.result ≡ position (λ b. eqb b c.args.separator) bytes = position_from_yields_List _ _ _ c.position.result c.position.ensures.ran (YieldsList-from_slice bytes cc) (λ x b q k. search (rules, tests)) in
+    let cut = cut_some c.args.separator bytes c.in-Some.i (sym at ∙ c.in-Some.is) in
+    grind (arith, common_steps)
 
-pub returns : goal.returns
-returns c = cut_nowhere _ c.args.bytes.now c.loop-i.i c.loop-i-test.false c.loop-i.invariant
+pub returns-in-None : goal.returns-in-None
+returns-in-None c =
+    let bytes = c.args.bytes.now in
+    let at : c.position.result ≡ position (λ b. eqb b c.args.separator) bytes = position_from_yields_List _ _ _ c.position.result c.position.ensures.ran (YieldsList-from_slice bytes cc) (λ x b q k. search (rules, tests)) in
+    cut_none c.args.separator bytes (sym at ∙ c.in-None.is)

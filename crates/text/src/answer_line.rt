@@ -1,0 +1,16 @@
+// One line of an account.
+ghost use Rattle.std.specs.Prelude.{◌≡◌, ◌++◌, string_bytes, OnOk};
+ghost use Rattle.text.specs.AnswerLine.{line_text};
+
+use crate::answers::answer_text;
+use calls::answer::Answer;
+use std::alloc::{AllocError, Global};
+use std::fmt::Write;
+
+// Adds the text of an answer and a newline.
+pub fn add_answer(heap: Global, answer: Answer, out: &mut String) -> Result<(), AllocError>
+    ensures { OnOk result (string_bytes out.new ≡ string_bytes out.old ++ line_text answer) }
+{
+    let text = answer_text(heap, answer)?;
+    writeln!(out, "{text}")
+}
