@@ -19,14 +19,10 @@ fn answer<M: Memory>(memory: &mut M, line: Line) -> Answer
     ensures same { M.Memory.spare memory.new ≡ M.Memory.spare memory.old }
 {
     match line.call {
-        Ok(Call::Poke { address, word }) => match memory.poke(address, word) {
-            Ok(()) => Answer::Done,
-            Err(fault) => Answer::Refused(Fault::from(fault)),
-        },
-        Ok(Call::Peek { address }) => match memory.peek(address) {
-            Ok(word) => Answer::Value(word),
-            Err(fault) => Answer::Refused(Fault::from(fault)),
-        },
+        Ok(Call::Poke { address, word }) => {
+            Answer::from(memory.poke(address, word).map_err(Fault::from))
+        }
+        Ok(Call::Peek { address }) => Answer::from(memory.peek(address).map_err(Fault::from)),
         Ok(_) => Answer::Refused(Fault::Unreadable { line: line.number }),
         Err(fault) => Answer::Refused(fault),
     }
@@ -46,7 +42,7 @@ pub fn account_of<M: Memory>(
     let mut out = String::new(heap);
     for line in Reader::new(script) {
         let answer = answer(memory, line);
-        add_answer(heap, answer, &mut out)?;
+        add_answer(answer, &mut out)?;
     }
     Ok(out)
 }

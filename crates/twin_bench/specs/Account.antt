@@ -15,8 +15,7 @@ use Rattle.twin.specs.declared.request.Request.TheVariants as requests
 -- a look has no form in a script; as any other accepted call it is told as done
 abbrev pub answer_in : Reply → Answer
 answer_in (replies.Answer a) = a
-answer_in (replies.SawInstruction x) = Done
-answer_in (replies.SawData x) = Done
+answer_in (replies.Saw x) = Done
 
 -- a line that reads is a call; one that does not is answered by its fault, and leaves all as it was
 abbrev pub read_answer : State → Result calls.Call Fault → Answer

@@ -51,7 +51,7 @@ fn answer_in(reply: Reply) -> Answer
 {
     match reply {
         Reply::Answer(answer) => answer,
-        Reply::SawInstruction(_) | Reply::SawData(_) => Answer::Done,
+        Reply::Saw(_) => Answer::Done,
     }
 }
 
@@ -76,7 +76,7 @@ fn tell(heap: Global, lines: &[Line], replies: &[Reply]) -> Result<String, Alloc
     let mut rest = replies.iter();
     for line in lines {
         let answer = answer_to(*line, &mut rest);
-        add_answer(heap, answer, &mut out)?;
+        add_answer(answer, &mut out)?;
     }
     Ok(out)
 }
