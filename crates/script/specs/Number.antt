@@ -1,5 +1,12 @@
 -- Numbers as a script writes them. Assumes nothing.
 use Rattle.std.specs.Prelude.{ℕ, ◌+◌, ◌-◌, ◌*◌, ◌^◌, Bool, cond, ◌&&◌, List, [], ◌∷◌, drop, Some, None, Option, ◌==◌, nat_le, nat_lt, slice_index}
+use Rattle.script.specs.declared.number.Base.{Base}
+use Rattle.script.specs.declared.number.Base.TheVariants.{Decimal, Hexadecimal}
+
+-- the base of a number by how it is written
+abbrev pub base_of : Base → ℕ
+base_of Decimal = 10
+base_of Hexadecimal = 16
 
 -- what a digit counts: 0 to 9, a to f in lower case; 16 is no digit
 abbrev pub digit_value : ℕ → ℕ

@@ -1,6 +1,22 @@
 // Numbers.
 ghost use Rattle.std.specs.Prelude.{◌≡◌, ◌≤◌};
-ghost use Rattle.script.specs.Number.{digit_of, numeral, number_of};
+ghost use Rattle.script.specs.Number.{base_of, digit_of, numeral, number_of};
+
+// How a number is written.
+#[derive(Clone, Copy)]
+enum Base {
+    Decimal = 10,
+    Hexadecimal = 16,
+}
+
+impl Base {
+    fn radix(self) -> u32
+        ensures value { result ≡ base_of self }
+        ensures few { result ≤ 16 }
+    {
+        self as u32
+    }
+}
 
 // What a digit of a base up to 16 counts. Letters are lower case alone: `char::to_digit` would take capitals too.
 fn digit(byte: u8, base: u32) -> Option<u32>
@@ -14,17 +30,18 @@ fn digit(byte: u8, base: u32) -> Option<u32>
     if counted < base { Some(counted) } else { None }
 }
 
-// The number that the digits write in a base up to 16.
-fn value(digits: &[u8], base: u32) -> Option<u32>
-    ensures { base ≤ 16 → result ≡ numeral base digits.now }
+// The number that the digits write.
+fn value(digits: &[u8], base: Base) -> Option<u32>
+    ensures { result ≡ numeral (base_of base) digits.now }
 {
     if digits.is_empty() {
         return None;
     }
+    let radix = base.radix();
     let mut value: u32 = 0;
     for byte in digits {
-        let next = digit(*byte, base)?;
-        value = value.checked_mul(base)?.checked_add(next)?;
+        let next = digit(*byte, radix)?;
+        value = value.checked_mul(radix)?.checked_add(next)?;
     }
     Some(value)
 }
@@ -34,7 +51,7 @@ pub(crate) fn number(word: &[u8]) -> Option<u32>
     ensures { result ≡ number_of word.now }
 {
     match word {
-        [b'0', b'x', digits @ ..] => value(digits, 16),
-        _ => value(word, 10),
+        [b'0', b'x', digits @ ..] => value(digits, Base::Hexadecimal),
+        _ => value(word, Base::Decimal),
     }
 }
