@@ -38,5 +38,6 @@ pub(crate) fn word(bytes: &[u8], address: u32) -> Result<u32, BusFault>
     ensures { result ≡ peeked (rom bytes.now) address }
 {
     let at = place(bytes.len(), address)?;
-    Ok(u32::from_be_bytes([bytes[at], bytes[at + 1], bytes[at + 2], bytes[at + 3]]))
+    let four = bytes[at..].first_chunk().unwrap();
+    Ok(u32::from_be_bytes(*four))
 }
