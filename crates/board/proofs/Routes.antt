@@ -80,10 +80,6 @@ first_cases : (r : Result (Unit {0}) BusFault) (x y : Pile) (p : Place) (a w : �
 first_cases (Ok u) x y p a w = refl
 first_cases (Err f) x y p a w = refl
 
-second_cases : (r : Result (Unit {0}) BusFault) (x y : Pile) (p : Place) (w : ℕ) → Both x (pile_left r y p w) ≡ pile_left r (Both x y) (Second p) w
-second_cases (Ok u) x y p w = refl
-second_cases (Err f) x y p w = refl
-
 module _ (base mask : ℕ) (first second : Meaning) (a i : ℕ) (small : a < 2 ^ 32) (to : picked base mask a ≡ Some i) where
   pub peek_first : at_place (peeked first i) a ≡ peeked (routed base mask first second) a
   peek_first = peek_cases (aligned i) (first.word i) a i ∙ rw (aligned_inner base mask a i to, lt-ltb a (2 ^ 32) small, to) refl
@@ -114,26 +110,3 @@ module _ (base mask : ℕ) (first second : Meaning) (a i : ℕ) (small : a < 2 ^
 
   pub lent_first : (x y : Pile) (p q : ℕ → Place) (w : ℕ) → Both (pile_left (poked first i) x (p i) w) y ≡ pile_left (poked (routed base mask first second) a) (Both x y) (routed_place base mask p q a) w
   lent_first x y p q w = first_cases (poked first i) x y (p i) a w ∙ (λ k. pile_left (poke_first k) (Both x y) (by (sym to k) (λ j. First (p j)) (λ j. Second (q j)) a) w)
-
-module _ (base mask : ℕ) (first second : Meaning) (a : ℕ) (small : a < 2 ^ 32) (past : picked base mask a ≡ None) where
-  pub poke_second : poked second a ≡ poked (routed base mask first second) a
-  poke_second = rw (lt-ltb a (2 ^ 32) small, past) refl
-
-  -- the map with the word at a replaced in the second memory, at each address
-  beyond_at : (w x : ℕ) (t : Bool) → ltb x (2 ^ 32) ≡ t → (p : Option ℕ) → picked base mask x ≡ p → cond t (by p first.word (replaced second a w).word x) None ≡ cond (eqb x a) (Some w) (cond t (by p first.word second.word x) None)
-  beyond_at w x false e p q = rw (ne_eqb x a (λ same. omega (arith, ltb-false x (2 ^ 32) e))) refl
-  beyond_at w x true e None q = refl
-  beyond_at w x true e (Some j) q = rw (ne_eqb x a (λ same. let z : Some j ≡ None = sym q ∙ ap (picked base mask) same ∙ past in let n : ◌≡◌ {A = ℕ} 0 1 = cc in omega arith)) refl
-
-  replaced_second : (w : ℕ) → routed base mask first (replaced second a w) ≡ replaced (routed base mask first second) a w
-  replaced_second w = λ k. record { word = λ x. beyond_at w x (ltb x (2 ^ 32)) refl (picked base mask x) refl k; storable = (routed base mask first second).storable }
-
-  left_second : (w : ℕ) (r : Result (Unit {0}) BusFault) → routed base mask first (left r second a w) ≡ left r (routed base mask first second) a w
-  left_second w (Ok u) = replaced_second w
-  left_second w (Err f) = refl
-
-  pub stored_second : (w : ℕ) → routed base mask first (stored second a w) ≡ stored (routed base mask first second) a w
-  stored_second w = left_second w (poked second a) ∙ ap (λ r. left r (routed base mask first second) a w) poke_second
-
-  pub lent_second : (x y : Pile) (p q : ℕ → Place) (w : ℕ) → Both x (pile_left (poked second a) y (q a) w) ≡ pile_left (poked (routed base mask first second) a) (Both x y) (routed_place base mask p q a) w
-  lent_second x y p q w = second_cases (poked second a) x y (q a) w ∙ (λ k. pile_left (poke_second k) (Both x y) (by (sym past k) (λ j. First (p j)) (λ j. Second (q j)) a) w)

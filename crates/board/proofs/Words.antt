@@ -1,12 +1,11 @@
 -- Laws of words in bytes: what a word put in makes of a list, and of its map. Assumes nothing.
-use Rattle.std.proofs.Common.{◌≡◌, ℕ, ◌+◌, ◌-◌, ◌*◌, ◌/◌, ◌%◌, ◌^◌, ◌<◌, ◌≤◌, min, Bool, true, false, cond, eqb, ltb, leb, ◌≢◌, List, ◌++◌, length, get_or, take, drop, Some, None, Ok, Err, Result, sym, refl, ap, ◌∙◌, arith}
-use Rattle.std.proofs.lemmas.List.{get_or_append_left, get_or-append_right, get_or-take, get_or-drop, length-take-le, length-append, length-drop, drop-drop}
-use Rattle.std.proofs.lemmas.Slice.{drop-put_mid}
+use Rattle.std.proofs.Common.{◌≡◌, ℕ, ◌+◌, ◌-◌, ◌/◌, ◌%◌, ◌^◌, ◌<◌, ◌≤◌, Bool, true, false, cond, eqb, ltb, leb, ◌≢◌, List, ◌++◌, length, get_or, take, drop, Some, None, Ok, Err, Result, sym, refl, ap, ◌∙◌, arith}
+use Rattle.std.proofs.lemmas.List.{get_or_append_left, get_or-append_right, get_or-take, get_or-drop, length-take-le, length-append, length-drop}
 use Rattle.std.proofs.lemmas.Nat.{mod-pow-add}
 use Rattle.std.proofs.lemmas.Bool.{true≢false, eqb-true, eqb-false, and_parts, ne_eqb, leb-true, ltb-true, ltb-false}
 use borrow.Rule.Slice.PartMut.{put_mid, Post-is}
 use Rattle.board.specs.declared.bus.BusFault.{BusFault}
-use Rattle.board.specs.Bytes.{word_of, big_endian, inside, word_in, placed, bytes_of, with_word, words_in, tail}
+use Rattle.board.specs.Bytes.{word_of, big_endian, inside, word_in, placed, bytes_of, with_word}
 use Rattle.board.specs.declared.bus.Refusal.TheVariants.{Misaligned, NoWord}
 use Rattle.board.specs.Memory.{aligned, refuse, stored}
 use Rattle.board.specs.Pile.{Lent, Here, pile_left}
@@ -39,10 +38,6 @@ module _ (bs h : List ℕ) (a : ℕ) (four : length h ≡ 4) (fits : a + 4 ≤ l
       ∙ get_or-append_right h _ 4 (j - a) 0 four (omega arith)
       ∙ get_or-drop (a + 4) bs (j - a - 4) 0
       ∙ ap (λ n. get_or bs n 0) (omega arith)
-
-  behind_word : (n : ℕ) → a + 4 ≤ n → drop n (take a bs ++ (h ++ drop (a + 4) bs)) ≡ drop n bs
-  behind_word n past =
-      ap (λ l. drop n (take a bs ++ (h ++ l))) (sym (drop-drop 4 a bs)) ∙ drop-put_mid a 4 bs h n past (omega arith) four
 
   elsewhere : (x i : ℕ) → x % 4 ≡ 0 → a % 4 ≡ 0 → x ≢ a → i < 4 → get_or (take a bs ++ (h ++ drop (a + 4) bs)) (x + i) 0 ≡ get_or bs (x + i) 0
   elsewhere x i xm am ne few = outside_word (x + i) (ltb (x + i) a) refl (λ e. let b = ltb-false (x + i) a e in omega (arith, b, ne, xm, am, few))
@@ -94,21 +89,9 @@ module _ (bs : List ℕ) (a w : ℕ) (small : w < 2 ^ 32) (al : aligned a ≡ tr
   map_is : ram (with_word bs a w) ≡ stored (ram bs) a w
   map_is = (λ i. record { word = λ x. map_at x (aligned x) refl i; storable = λ _. true }) ∙ rw (al, ins) refl
 
-  tail_is : tail (with_word bs a w) ≡ tail bs
-  tail_is =
-      let b = ltb-true a (2 ^ 32) (and_parts (leb (a + 4) (length bs)) (ltb a (2 ^ 32)) ins).1 in
-      let m = eqb-true (a % 4) 0 al in
-      let f = fits in
-      let past : a + 4 ≤ 4 * words_in bs = omega arith in
-      ap (λ n. drop (4 * min (n / 4) (2 ^ 30)) (with_word bs a w)) same_length ∙ behind_word bs (bytes_of w) a refl fits (4 * words_in bs) past
-
--- what a poke that finds its index leaves of the map and of the tail
-module _ (bs : List ℕ) (a at w : ℕ) (small : w < 2 ^ 32) (ok : placed (length bs) a ≡ Ok at) where
-  pub stored_at : ram (with_word bs at w) ≡ stored (ram bs) a w
-  stored_at = let p = placed_ok (length bs) a at ok in rw p.0 (map_is bs a w small p.1 p.2)
-
-  pub tail_kept : tail (with_word bs at w) ≡ tail bs
-  tail_kept = let p = placed_ok (length bs) a at ok in rw p.0 (tail_is bs a w small p.1 p.2)
+-- what a poke that finds its index leaves of the map
+pub stored_at : (bs : List ℕ) (a at w : ℕ) → w < 2 ^ 32 → placed (length bs) a ≡ Ok at → ram (with_word bs at w) ≡ stored (ram bs) a w
+stored_at bs a at w small ok = let p = placed_ok (length bs) a at ok in rw p.0 (map_is bs a w small p.1 p.2)
 
 -- what a write of the part a to a + 3 puts in, where that holds the bytes of w
 pub put : (bs part : List ℕ) (a w : ℕ) → {h : List ℕ} → h ≡ bytes_of w → part ≡ h → put_mid a (a + 4 - a) bs part ≡ with_word bs a w

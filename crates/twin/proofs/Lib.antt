@@ -13,4 +13,3 @@ pub mod Settling
 pub mod Slots
 pub mod Sources
 pub mod Staying
-pub mod Writes

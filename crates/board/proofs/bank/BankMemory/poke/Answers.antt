@@ -1,6 +1,6 @@
 use Rattle.std.proofs.Common.{◌++◌, sym, ap, ◌∙◌}
-use Rattle.board.proofs.Routes.{poke_first, stored_first, lent_first, poke_second, stored_second, lent_second}
-use Rattle.board.specs.Bank.{routed, routed_place, shielded}
+use Rattle.board.proofs.Routes.{poke_first, stored_first, lent_first}
+use Rattle.board.specs.Bank.{routed, routed_place}
 use Rattle.board.specs.Bus.{at_place}
 use Rattle.board.specs.Pile.{Both}
 use Rattle.board.proofs.bank.BankMemory.poke.Goals as goal
@@ -15,16 +15,4 @@ returns-in-Some g c =
       same = ap (λ l. l ++ g.B.Memory.spare c.args.self.now.second) done.same;
       pile = ap (λ x. Both x (g.B.Memory.lent c.args.self.now.second)) done.pile ∙ lent_first _ _ _ _ c.args.address c.in-Some.inner c.ranges.address.fits to _ _ (g.A.Memory.place c.args.self.now.first) (g.B.Memory.place c.args.self.now.second) c.args.word;
       places = ap (λ p. routed_place c.args.self.now.base c.args.self.now.mask p (g.B.Memory.place c.args.self.now.second)) done.places;
-    }
-
-pub returns-in-None : goal.returns-in-None
-returns-in-None g c =
-    let past = sym c.in-None.ensures in
-    let first = shielded c.args.self.now.protect (g.A.Memory.meaning c.args.self.now.first) in
-    record {
-      answer = c.poke.ensures.answer ∙ poke_second _ _ first _ c.args.address c.ranges.address.fits past;
-      left = ap (λ m. routed c.args.self.now.base c.args.self.now.mask first m) c.poke.ensures.left ∙ stored_second _ _ first _ c.args.address c.ranges.address.fits past c.args.word;
-      same = ap (λ l. g.A.Memory.spare c.args.self.now.first ++ l) c.poke.ensures.same;
-      pile = ap (λ y. Both (g.A.Memory.lent c.args.self.now.first) y) c.poke.ensures.pile ∙ lent_second _ _ first _ c.args.address c.ranges.address.fits past _ _ (g.A.Memory.place c.args.self.now.first) (g.B.Memory.place c.args.self.now.second) c.args.word;
-      places = ap (λ p. routed_place c.args.self.now.base c.args.self.now.mask (g.A.Memory.place c.args.self.now.first) p) c.poke.ensures.places;
     }
