@@ -14,7 +14,7 @@ use std::fmt;
 pub struct Grant {
     // the physical address
     pub address: u32,
-    // the page's size in bytes, 0 where there is no page
+    // the page's size in bytes as it prints, 0 where there is no page
     pub size: u32,
     pub cache_inhibit: bool,
     pub write_through: bool,

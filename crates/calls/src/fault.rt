@@ -107,6 +107,7 @@ pub enum Fault {
 pub struct Figures {
     pub number: u32,
     pub layer: Layer,
+    // a number, as it prints
     pub level: u32,
     pub place: u32,
 }

@@ -73,6 +73,7 @@ impl<'a> Iterator for Reader<'a> {
         if let Some(line) = self.pending.take() {
             return Some(line);
         }
+        // a `for` over `self.lines.by_ref()` leaves the lines unknown behind it
         while let Some(bytes) = self.lines.next() {
             let number = self.number;
             self.number += 1;

@@ -9,6 +9,7 @@ use crate::bits::{bit, bits, clear_low};
 #[derive(Clone, Copy)]
 pub struct Control(pub u32);
 
+// Each field has its name here, and callers name no places of bits.
 impl Control {
     // The group mode is 1.
     pub fn group_mode(self) -> bool

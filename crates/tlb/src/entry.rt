@@ -10,6 +10,7 @@ use crate::source::Source;
 // One slot's entry; its page is of the slot's kind.
 #[derive(Clone, Copy)]
 pub struct Entry<P> {
+    // a flag: an entry that was ended keeps its space and page, which a look shows
     pub live: bool,
     // the space that it was loaded in
     pub space: u32,

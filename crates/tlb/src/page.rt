@@ -68,6 +68,7 @@ pub struct Common {
     pub rights: u32,
     pub shared: bool,
     pub cache_inhibit: bool,
+    // a flag: a page that is not valid still matches, and then refuses
     pub valid: bool,
 }
 
@@ -134,6 +135,7 @@ pub trait Page: Copy {
     // how a page of this kind is made, and what is read of it
     ghost shape: { Shape Self };
 
+    // A constructor and no `From`, so that its promise stands in `shape`.
     fn made(source: Source) -> Self
         ensures { result ≡ shape.made source.epn source.twc source.rpn };
 

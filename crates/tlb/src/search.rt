@@ -11,7 +11,7 @@ pub trait Matching {
         ensures { result ≡ answers self.now address space };
 }
 
-// The lowest slot that matches.
+// The lowest slot that matches: a loop over the slots with their index, as the rule says it.
 pub fn find<T: Matching>(slots: &[T], address: u32, space: u32) -> Option<usize>
     ensures found { result ≡ lowest (λ x. T.Matching.answers x address space) slots.now }
     ensures within { IfSome result (λ i. i < length slots.now) }

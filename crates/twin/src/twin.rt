@@ -15,6 +15,8 @@ use calls::answer::Answer;
 use calls::call::Call;
 use calls::fault::Fault;
 
+// That places stay (`places`) and that the reference is the lender's (`lent`) is said of each call that could change
+// them: both speak of a twin before and after it, which no type can.
 #[derive(Drop)]
 pub struct Twin<'a, M> {
     pub unit: Mmu,

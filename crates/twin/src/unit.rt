@@ -33,6 +33,8 @@ pub struct Mode {
     pub data: bool,
 }
 
+// The halves are of two types, since a page for fetches has less than one for loads and stores. Where a kind is matched
+// and both arms call one generic method, the kind meets its type.
 #[derive(Drop)]
 pub struct Mmu {
     pub instruction: Half<InstructionPage>,
