@@ -87,6 +87,7 @@ const RIGHTS: [[[[bool; 3]; 2]; 4]; 2] = [
 ];
 
 // Whether a page's rights allow an access.
+#[tactic(auto, using(crate::proofs::RightsTable::read_once))]
 pub fn allowed(rights: u32, problem: bool, access: Access) -> bool
     ensures { result ≡ allows rights problem access }
 {
@@ -113,6 +114,7 @@ fn rule(group_mode: bool, code: u32, problem: bool) -> Ruling
 
 impl Protection {
     // What the settings make of an access to a page of this group.
+    #[tactic(auto, unfolding(crate::specs::Rights::ruling_of))]
     pub fn ruling(self, group: u32, problem: bool) -> Ruling
         ensures { result ≡ ruling_of self.group_mode self.ap group problem }
     {

@@ -45,6 +45,7 @@ fn permitted(page: &Common, protection: Protection, attempt: Attempt) -> Result<
 }
 
 // What a page gives to an access that matches it.
+#[tactic(auto, unfolding(crate::specs::Verdict::gives))]
 pub fn verdict<P: Page>(page: &P, protection: Protection, attempt: Attempt) -> Result<Grant, Fault>
     ensures { result ≡ page_gives P.Page.shape page.now protection attempt.problem attempt.access attempt.address }
 {

@@ -31,6 +31,7 @@ impl Table {
 
     // Where the word for an address is, the table's own place standing in `base`: the table base or a first word. It is
     // also what a read of M_TWB or of MD_TWC gives for MD_EPN.
+    #[tactic(auto, using(crate::proofs::Places::compose, crate::proofs::Tables::address_is, crate::proofs::Tables::index_small))]
     pub fn place(self, base: u32, address: u32) -> u32
         ensures { result ≡ address_in self base address }
     {

@@ -3,6 +3,7 @@ ghost use Rattle.std.specs.Prelude.{◌≡◌, ◌+◌, ◌<◌, ◌≤◌};
 ghost use Rattle.tlb.specs.Bits.{field, flag, cleared};
 
 // Bits `first` to `last` of a word. No field is a whole word.
+#[tactic(auto, using(crate::proofs::Fields::shift_mask))]
 pub(crate) fn bits(word: u32, first: u32, last: u32) -> u32
     requires order { first ≤ last }
     requires within { last < 32 }

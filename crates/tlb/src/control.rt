@@ -69,6 +69,7 @@ impl Control {
     }
 
     // The same word with another index. Slots count modulo 32.
+    #[tactic(auto, using(crate::proofs::Fields::put_index), unfolding(crate::specs::Control::with_index))]
     pub fn with_index(self, index: u8) -> Control
         ensures { result.0 ≡ with_index (index % 32) self.0 }
     {

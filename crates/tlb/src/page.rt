@@ -94,6 +94,7 @@ fn both_valid(source: Source) -> bool
 }
 
 impl Common {
+    #[tactic(auto, unfolding(crate::specs::Page::common_of))]
     fn of(source: Source) -> Common
         ensures { result ≡ common_of source.epn source.twc source.rpn }
     {
@@ -114,6 +115,7 @@ impl Common {
     }
 
     // Whether the page contains an address.
+    #[tactic(auto, unfolding(crate::specs::Page::contains))]
     pub fn contains(&self, address: u32) -> bool
         ensures { result ≡ contains self.now address }
     {
@@ -121,6 +123,7 @@ impl Common {
     }
 
     // The physical address of an effective one.
+    #[tactic(auto, using(crate::proofs::Fields::join_offset))]
     pub fn physical(&self, address: u32) -> u32
         ensures { result ≡ physical self.now address }
     {

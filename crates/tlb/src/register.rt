@@ -98,6 +98,7 @@ impl Register {
     }
 
     // What is kept of a word that is written: every field that is taken from the register is in it.
+    #[tactic(auto, using(crate::proofs::KeptFields::fields_kept))]
     pub fn keep(self, word: u32) -> u32
         ensures value { result ≡ bit_and word (kept_bits self) }
         ensures fields { Agree (fields_of self) result word }

@@ -6,6 +6,7 @@ pub mod Examples
 pub mod Follows
 pub mod Grants
 pub mod Pages
+pub mod Promised
 pub mod Ram
 pub mod Reloading
 pub mod Resolving

@@ -12,6 +12,7 @@ use tlb::register::Kind;
 use tlb::source::Source;
 
 // The EPN that a miss of an address in a space sets: the page number, the live bit, the space.
+#[tactic(auto, using(crate::proofs::Epns::three_parts))]
 fn missed_epn(address: u32, space: u32) -> u32
     requires { space < 16 }
     ensures { result ≡ missed_epn address space }

@@ -36,6 +36,7 @@ impl Drop for Pointer<'_> {
 
 impl<'a> Pointer<'a> {
     // Points the index at a slot. Slots count modulo 32.
+    #[tactic(auto, using(tlb::proofs::Fields::index_put))]
     fn at(ctr: &'a mut u32, slot: u32) -> Pointer<'a>
         ensures saved { result.saved ≡ ctr.old }
         ensures points { index_of result.ctr.now ≡ slot % 32 }

@@ -27,6 +27,7 @@ impl Mmu {
     }
 
     // Walks the tables for an address, and loads what they give. Where the walk stops, what it has kept stays.
+    #[tactic(auto, using(crate::proofs::Resolving::stopped_first, crate::proofs::Resolving::stopped_second, crate::proofs::Resolving::passed_both))]
     fn walk<M: Memory>(&mut self, memory: &M, kind: Kind, address: u32) -> Result<(), Fault>
         ensures answer { result ≡ walk_result (walked (M.Memory.meaning memory.now) self.old.twb address) }
         ensures left { self.new ≡ walk_unit kind (walked (M.Memory.meaning memory.now) self.old.twb address) self.old }

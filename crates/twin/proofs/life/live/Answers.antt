@@ -1,17 +1,11 @@
 use Rattle.std.proofs.Common.{◌≡◌, ◌++◌, refl, ap, ◌∙◌, rules}
 use Rattle.std.proofs.lemmas.Result.{IfOk-from_err, MatchResult-from_err}
 use Rattle.twin.proofs.Examples as examples
-use Rattle.twin.proofs.Grants.{grants_sourced}
+use Rattle.twin.proofs.Promised.{promises}
 use Rattle.twin.proofs.Reloading.{reload_law, reload_example}
-use Rattle.twin.proofs.Settling.{settled_answers, lives_alike}
-use Rattle.twin.proofs.Staying.{loaded_stays}
 use Rattle.twin.specs.Bytes.{pile_after}
 use Rattle.twin.specs.Life.{state_of, begin, after, replies}
-use Rattle.twin.specs.Promises.{Promises}
 use Rattle.twin.proofs.life.live.Goals as goal
-
-promises : Promises
-promises = record { grants = grants_sourced; settled = settled_answers; alike = lives_alike; stays = loaded_stays }
 
 pub returns-in_err-replies : goal.returns-in_err-replies
 returns-in_err-replies g c =
