@@ -37,8 +37,7 @@ fn poke_shielded<M: Memory>(
 {
     if protect {
         memory.peek(address)?;
-        let refusal = Refusal::NotStorable;
-        return Err(BusFault { refusal, address });
+        return Err(Refusal::NotStorable.at(address));
     }
     memory.poke(address, word)
 }

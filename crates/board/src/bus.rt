@@ -20,6 +20,16 @@ pub struct BusFault {
     pub address: u32,
 }
 
+impl Refusal {
+    // The fault of a refusal at an address.
+    pub fn at(self, address: u32) -> BusFault
+        ensures { result ≡ record { refusal = self; address = address } }
+    {
+        let refusal = self;
+        BusFault { refusal, address }
+    }
+}
+
 // The same answer; a refusal's place is `address`, as the caller put it.
 pub fn relocated<T>(answer: Result<T, BusFault>, address: u32) -> Result<T, BusFault>
     ensures { result ≡ at_place answer address }

@@ -13,8 +13,7 @@ pub(crate) fn align(address: u32) -> Result<(), BusFault>
     if address % 4 == 0 {
         Ok(())
     } else {
-        let refusal = Refusal::Misaligned;
-        Err(BusFault { refusal, address })
+        Err(Refusal::Misaligned.at(address))
     }
 }
 
@@ -28,8 +27,7 @@ pub(crate) fn place(len: usize, address: u32) -> Result<usize, BusFault>
     if at + 4 <= len {
         Ok(at)
     } else {
-        let refusal = Refusal::NoWord;
-        Err(BusFault { refusal, address })
+        Err(Refusal::NoWord.at(address))
     }
 }
 

@@ -49,7 +49,6 @@ impl<'a> Memory for Rom<'a> {
         ensures places { Here ≡ Here }
     {
         bytes::place(self.bytes.len(), address)?;
-        let refusal = Refusal::NotStorable;
-        Err(BusFault { refusal, address })
+        Err(Refusal::NotStorable.at(address))
     }
 }

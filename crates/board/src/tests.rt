@@ -7,7 +7,7 @@ use crate::rom::Rom;
 use crate::void::Void;
 
 fn refused<T>(refusal: Refusal, address: u32) -> Result<T, BusFault> {
-    Err(BusFault { refusal, address })
+    Err(refusal.at(address))
 }
 
 #[test]

@@ -23,8 +23,7 @@ impl Memory for Void {
 
     fn peek(&self, address: u32) -> Result<u32, BusFault> {
         bytes::align(address)?;
-        let refusal = Refusal::NoWord;
-        Err(BusFault { refusal, address })
+        Err(Refusal::NoWord.at(address))
     }
 
     fn poke(&mut self, address: u32, _word: u32) -> Result<(), BusFault> {

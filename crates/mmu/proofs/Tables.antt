@@ -6,7 +6,8 @@ use Rattle.calls.specs.declared.fault.Descriptor.{Descriptor}
 use Rattle.calls.specs.declared.fault.Fault.{Fault}
 use Rattle.calls.specs.declared.fault.Level.{Level}
 use Rattle.mmu.proofs.Places.{field_small}
-use Rattle.mmu.specs.Walk.{first_word, second_word, at_level, sized, marked, stops, onward, index_in, address_in, level_of, flaw_in, word_in}
+use Rattle.mmu.specs.Walk.{first_word, second_word, at_level, stops, onward, index_in, address_in, level_of, flaw_in, word_in}
+use Rattle.tlb.specs.Descriptor.{sized, marked}
 use Rattle.mmu.specs.declared.walk.Table.{Table}
 use Rattle.mmu.specs.declared.walk.Table.TheVariants.{First, Second}
 use Rattle.tlb.specs.Bits.{flag}

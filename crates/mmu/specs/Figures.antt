@@ -7,7 +7,8 @@ use Rattle.calls.specs.Fault.{figures_of}
 use Rattle.tlb.specs.Control.{next_index}
 use Rattle.tlb.specs.Page.{common_of, contains, physical}
 use Rattle.mmu.specs.Verdict.{gives}
-use Rattle.mmu.specs.Walk.{first_address, first_tested, marked}
+use Rattle.mmu.specs.Walk.{first_address, first_tested}
+use Rattle.tlb.specs.Descriptor.{marked}
 use Rattle.mmu.specs.declared.rights.Access.TheVariants.{Load}
 
 pub data Figure : Type 0 where

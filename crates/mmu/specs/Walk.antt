@@ -1,5 +1,5 @@
 -- The tablewalk. Assumes nothing.
-use Rattle.std.specs.Prelude.{ℕ, ◌+◌, ◌*◌, Bool, cond, not, Some, None, Option, Ok, Err, Result, ◌==◌, bit_and}
+use Rattle.std.specs.Prelude.{ℕ, ◌+◌, ◌*◌, cond, Some, None, Option, Ok, Err, Result, bit_and}
 use Rattle.board.specs.Memory.{Meaning, peeked}
 use Rattle.board.specs.declared.bus.BusFault.{BusFault}
 use Rattle.calls.specs.declared.fault.Descriptor.{Descriptor}
@@ -11,6 +11,7 @@ use Rattle.calls.specs.declared.fault.Level.TheVariants as levels
 use Rattle.mmu.specs.declared.walk.Table.{Table}
 use Rattle.mmu.specs.declared.walk.Table.TheVariants.{First, Second}
 use Rattle.tlb.specs.Bits.{field, flag}
+use Rattle.tlb.specs.Descriptor.{sized, marked}
 
 -- the kept table base, and bits 0 to 9 of the address at bits 20 to 29: where the first word is, and what M_TWB reads as
 abbrev pub first_address : ℕ → ℕ → ℕ
@@ -24,14 +25,6 @@ second_address first e = bit_and first 0xfffff000 + 4 * field 10 19 e
 abbrev pub at_level : {T : Type 0} → Level → Result T BusFault → Result T Fault
 at_level l (Ok x) = Ok x
 at_level l (Err f) = Err (Bus f l)
-
--- size bits 10 name no size
-abbrev pub sized : ℕ → Bool
-sized w = not (field 28 29 w == 2)
-
--- the mark bits of an RPN, 24 to 27, are all one
-abbrev pub marked : ℕ → Bool
-marked w = field 24 27 w == 15
 
 abbrev pub stops : {T : Type 0} → Descriptor → ℕ → Result T Fault
 stops why a = Err (Walk why a)

@@ -53,7 +53,7 @@ impl Access {
 }
 
 // The protection settings of one kind: the group mode and the word of MI_AP or MD_AP.
-#[derive(Clone, Copy)]
+#[derive(Clone, Copy, Debug, PartialEq, Eq)]
 pub struct Protection {
     pub group_mode: bool,
     pub ap: u32,

@@ -4,7 +4,7 @@ ghost use Rattle.mmu.specs.Walk.{index_in, address_in, level_of, flaw_in, word_i
 
 use board::memory::Memory;
 use calls::fault::{Descriptor, Fault, Level};
-use tlb::descriptor::{is_valid, level_one_index, level_two_index, mark_bits, size_bits};
+use tlb::descriptor::{is_marked, is_sized, is_valid, level_one_index, level_two_index};
 use tlb::page::Page;
 use tlb::source::Source;
 
@@ -54,9 +54,9 @@ impl Table {
     {
         match self {
             Table::First if !is_valid(word) => Some(Descriptor::FirstInvalid),
-            Table::First if size_bits(word) == 2 => Some(Descriptor::FirstSize),
+            Table::First if !is_sized(word) => Some(Descriptor::FirstSize),
             Table::Second if !is_valid(word) => Some(Descriptor::SecondInvalid),
-            Table::Second if mark_bits(word) != 15 => Some(Descriptor::SecondMarks),
+            Table::Second if !is_marked(word) => Some(Descriptor::SecondMarks),
             _ => None,
         }
     }

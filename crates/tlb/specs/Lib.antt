@@ -1,5 +1,6 @@
 pub mod Bits
 pub mod Control
+pub mod Descriptor
 pub mod Entry
 pub mod Page
 pub mod Register

@@ -1,6 +1,7 @@
-// Fields of effective addresses and of descriptors, as the tablewalk takes them.
+// Fields of effective addresses and of descriptors, as the tablewalk takes them: each has its name here.
 ghost use Rattle.std.specs.Prelude.{◌≡◌};
 ghost use Rattle.tlb.specs.Bits.{field, flag};
+ghost use Rattle.tlb.specs.Descriptor.{sized, marked};
 
 use crate::bits::{bit, bits};
 
@@ -30,6 +31,20 @@ pub fn mark_bits(word: u32) -> u32
     ensures { result ≡ field 24 27 word }
 {
     bits(word, 24, 27)
+}
+
+// Whether the size bits name a size.
+pub fn is_sized(word: u32) -> bool
+    ensures { result ≡ sized word }
+{
+    size_bits(word) != 2
+}
+
+// Whether the mark bits are all one.
+pub fn is_marked(word: u32) -> bool
+    ensures { result ≡ marked word }
+{
+    mark_bits(word) == 15
 }
 
 // Whether a descriptor is valid: bit 31.

@@ -8,7 +8,7 @@ use crate::search::Matching;
 use crate::source::Source;
 
 // One slot's entry; its page is of the slot's kind.
-#[derive(Clone, Copy)]
+#[derive(Clone, Copy, Debug, PartialEq, Eq)]
 pub struct Entry<P> {
     // a flag: an entry that was ended keeps its space and page, which a look shows
     pub live: bool,

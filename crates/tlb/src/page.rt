@@ -35,11 +35,13 @@ impl Size {
     {
         1 << self.offset_bits()
     }
+}
 
-    // The size that TWC and RPN give.
-    fn of(source: Source) -> Size
-        ensures { result ≡ size_of source.twc source.rpn }
-    {
+// The size that TWC and RPN give.
+impl From<Source> for Size {
+    ghost from_gives = { λ s r. r ≡ size_of s.twc s.rpn };
+
+    fn from(source: Source) -> Size {
         match (
             bit(source.twc, 29),
             bit(source.twc, 28),
@@ -73,7 +75,7 @@ pub struct Common {
 }
 
 // A page for fetches.
-#[derive(Clone, Copy)]
+#[derive(Clone, Copy, Debug, PartialEq, Eq)]
 pub struct InstructionPage {
     pub common: Common,
 }
@@ -93,13 +95,14 @@ fn both_valid(source: Source) -> bool
     bit(source.twc, 31) && bit(source.rpn, 31)
 }
 
-impl Common {
+// The common part of the page that these words make.
+impl From<Source> for Common {
+    ghost from_gives = { λ s r. r ≡ common_of s.epn s.twc s.rpn };
+
     #[tactic(auto, unfolding(crate::specs::Page::common_of))]
-    fn of(source: Source) -> Common
-        ensures { result ≡ common_of source.epn source.twc source.rpn }
-    {
+    fn from(source: Source) -> Common {
         let Source { epn, twc, rpn } = source;
-        let size = Size::of(source);
+        let size = Size::from(source);
         let offset = size.offset_bits();
         Common {
             size,
@@ -113,7 +116,9 @@ impl Common {
             valid: both_valid(source),
         }
     }
+}
 
+impl Common {
     // Whether the page contains an address.
     #[tactic(auto, unfolding(crate::specs::Page::contains))]
     pub fn contains(&self, address: u32) -> bool
@@ -156,7 +161,7 @@ impl Page for InstructionPage {
     ghost shape = { instruction_shape };
 
     fn made(source: Source) -> InstructionPage {
-        let common = Common::of(source);
+        let common = Common::from(source);
         InstructionPage { common }
     }
 
@@ -177,7 +182,7 @@ impl Page for DataPage {
     ghost shape = { data_shape };
 
     fn made(source: Source) -> DataPage {
-        let common = Common::of(source);
+        let common = Common::from(source);
         let write_through = bit(source.twc, 30);
         let changed = bit(source.rpn, 23);
         DataPage {

@@ -7,11 +7,12 @@ pub trait Matching {
     // the answer, by address and current space
     ghost answers: { Self → ℕ → ℕ → Bool };
 
+    // Address and space go together here and in `find` alone.
     fn matches(&self, address: u32, space: u32) -> bool
         ensures { result ≡ answers self.now address space };
 }
 
-// The lowest slot that matches: a loop over the slots with their index, as the rule says it.
+// The lowest slot that matches: a loop over the slots with their index; nothing is counted by hand.
 pub fn find<T: Matching>(slots: &[T], address: u32, space: u32) -> Option<usize>
     ensures found { result ≡ lowest (λ x. T.Matching.answers x address space) slots.now }
     ensures within { IfSome result (λ i. i < length slots.now) }

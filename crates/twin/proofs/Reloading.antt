@@ -14,7 +14,8 @@ use Rattle.calls.specs.declared.fault.Level.TheVariants.{First, Second}
 use Rattle.calls.specs.declared.fault.Misuse.TheVariants.{Size, Marks}
 use Rattle.mmu.specs.Rights.{kind_of, allows, ruling_of}
 use Rattle.mmu.specs.Verdict.{gives}
-use Rattle.mmu.specs.Walk.{first_address, second_address, sized, marked, at_level, onward, first_word, second_word}
+use Rattle.mmu.specs.Walk.{first_address, second_address, at_level, onward, first_word, second_word}
+use Rattle.tlb.specs.Descriptor.{sized, marked}
 use Rattle.mmu.specs.declared.rights.Access.{Access}
 use Rattle.tlb.proofs.Fields.{field_kept}
 use Rattle.tlb.specs.Bits.{field, flag}

@@ -1,5 +1,5 @@
 -- A resolve that misses, by where its walk stops. Assumes nothing.
-use Rattle.std.proofs.Common.{◌≡◌, ℕ, Bool, true, false, Some, None, Ok, Err, Option, Result, sym, refl, ap, ◌∙◌, arith}
+use Rattle.std.proofs.Common.{◌≡◌, ℕ, Bool, true, false, Some, None, Ok, Err, Option, Result, sym, refl, ap, ◌∙◌, arith, bit_and}
 use Rattle.std.specs.Option.{ok_or}
 use Rattle.board.specs.Memory.{Meaning}
 use Rattle.calls.specs.declared.answer.Answer.{Answer}
@@ -11,11 +11,14 @@ use Rattle.mmu.specs.Walk.{first_word, second_word}
 use Rattle.mmu.specs.declared.rights.Access.{Access}
 use Rattle.tlb.specs.declared.register.Kind.{Kind}
 use Rattle.tlb.specs.declared.register.Kind.TheVariants.{Instruction, Data}
+use Rattle.tlb.specs.Register.{kept_bits}
+use Rattle.tlb.specs.declared.register.Register.TheVariants.{Twc}
+use Rattle.twin.specs.Registers.{kept_written}
 use Rattle.twin.specs.Access.{answer_of, found_answer, translated_answer, access_answer, slot_found}
 use Rattle.twin.specs.Access.{missed_unit}
 use Rattle.twin.specs.Call.{Outcome, resolve_outcome}
 use Rattle.twin.specs.declared.request.Reply.TheVariants as replies
-use Rattle.twin.specs.Resolve.{Walked, StoppedFirst, StoppedSecond, Passed, from_first, behind_first, walked, walk_result, walk_unit, resolve_missed, resolve_walked, resolve_found, resolved, ResultOf}
+use Rattle.twin.specs.Resolve.{Walked, StoppedFirst, StoppedSecond, Passed, from_first, behind_first, walked, walk_result, walk_unit, first_written, resolve_missed, resolve_walked, resolve_found, resolved, ResultOf}
 use Rattle.twin.specs.Access.{translates}
 use Rattle.twin.specs.Unit.{shape, half, space, zero_entry}
 use Rattle.twin.specs.declared.unit.Mmu.{Mmu}
@@ -24,6 +27,11 @@ use Rattle.twin.specs.declared.unit.Mmu.{Mmu}
 pub numbered : (o : Option Access) (a : Access) (f : Fault) → Ok a ≡ ok_or o f → o ≡ Some a
 numbered None a f e = let no : ◌≡◌ {A = ℕ} 0 1 = cc in absurd (omega arith)
 numbered (Some b) a f e = cc
+
+-- a first word is kept by a write of MD_TWC and one of the kind's own TWC
+pub first_kept : (k : Kind) (w : ℕ) (u : Mmu) → kept_written (Twc k) (bit_and w (kept_bits (Twc k))) (kept_written (Twc Data) (bit_and w (kept_bits (Twc Data))) u) ≡ first_written k w u
+first_kept Instruction w u = refl
+first_kept Data w u = refl
 
 -- where a walk stops, by its two words
 module _ (m : Meaning) (base e : ℕ) where

@@ -4,7 +4,8 @@ use Rattle.calls.specs.declared.fault.Fault.{Fault}
 use Rattle.calls.specs.declared.fault.Fault.TheVariants.{Register as Misused}
 use Rattle.calls.specs.declared.fault.Misuse.{Misuse}
 use Rattle.calls.specs.declared.fault.Misuse.TheVariants.{NoRegister, Mode, Size, Marks}
-use Rattle.mmu.specs.Walk.{first_address, second_address, sized, marked}
+use Rattle.mmu.specs.Walk.{first_address, second_address}
+use Rattle.tlb.specs.Descriptor.{sized, marked}
 use Rattle.tlb.specs.Bits.{flag}
 use Rattle.tlb.specs.Register.{kept_bits}
 use Rattle.tlb.specs.declared.register.Kind.{Kind}

@@ -15,7 +15,6 @@ use calls::fault::Fault;
 use mmu::attempt::Attempt;
 use mmu::rights::{Access, Protection};
 use mmu::verdict::verdict;
-use tlb::control::Control;
 use tlb::page::Page;
 use tlb::register::Kind;
 use tlb::search::find;
@@ -25,7 +24,7 @@ impl<P: Page> Half<P> {
         ensures { result ≡ protection self.now }
     {
         Protection {
-            group_mode: Control(self.registers.ctr).group_mode(),
+            group_mode: self.control().group_mode(),
             ap: self.registers.ap,
         }
     }
@@ -34,7 +33,7 @@ impl<P: Page> Half<P> {
     fn plain(&self, attempt: Attempt) -> Grant
         ensures { result ≡ plain_grant self.now attempt.access attempt.address }
     {
-        let control = Control(self.registers.ctr);
+        let control = self.control();
         Grant {
             address: attempt.address,
             size: 0,

@@ -5,7 +5,7 @@ ghost use Rattle.twin.specs.Call.{drop_unit, drop_all_unit};
 ghost use Rattle.twin.specs.Load.{ended, dropped, drop_half, drop_all_half};
 
 use crate::unit::{Half, Mmu};
-use tlb::control::{Control, unreserved};
+use tlb::control::unreserved;
 use tlb::entry::Entry;
 use tlb::page::Page;
 
@@ -47,7 +47,7 @@ impl<P: Page> Half<P> {
     fn unspared(&self) -> usize
         ensures { result ≡ unreserved (reserve self.now.registers.ctr) }
     {
-        usize::from(unreserved(Control(self.registers.ctr).reserve()))
+        usize::from(unreserved(self.control().reserve()))
     }
 
     fn drop_all(&mut self)

@@ -5,7 +5,7 @@ ghost use Rattle.twin.specs.Load.{missed_epn, missed, loaded};
 ghost use Rattle.twin.specs.Resolve.{loaded_unit};
 
 use crate::unit::{Half, Mmu};
-use tlb::control::{Control, next_index};
+use tlb::control::next_index;
 use tlb::entry::Entry;
 use tlb::page::Page;
 use tlb::register::Kind;
@@ -25,7 +25,7 @@ impl<P: Page> Half<P> {
     fn load(&mut self, word: u32)
         ensures { self.new ≡ loaded P.Page.shape word self.old }
     {
-        let control = Control(self.registers.ctr);
+        let control = self.control();
         let index = control.index() as u8;
         self.slots[usize::from(index)] = Entry::made(Source {
             epn: self.registers.epn,

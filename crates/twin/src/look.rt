@@ -1,5 +1,5 @@
 // Looks at slots.
-ghost use Rattle.std.specs.Prelude.{◌≡◌, ◌%◌, ◌<◌, length};
+ghost use Rattle.std.specs.Prelude.{◌≡◌, ◌%◌, ◌<◌};
 ghost use Rattle.tlb.specs.Control.{index_of};
 ghost use Rattle.tlb.specs.Entry.{entry_of};
 ghost use Rattle.twin.specs.Call.{look_kind, look_reply};
@@ -13,7 +13,7 @@ use tlb::page::{DataPage, InstructionPage, Page};
 use tlb::register::Kind;
 
 // The entry that a look saw: live, space and page.
-#[derive(Clone, Copy)]
+#[derive(Clone, Copy, Debug, PartialEq, Eq)]
 pub enum Seen {
     Instruction(Entry<InstructionPage>),
     Data(Entry<DataPage>),
@@ -57,8 +57,7 @@ impl<'a> Pointer<'a> {
 }
 
 // The entry in a slot, by pointing the index at it.
-fn pointed<P: Page>(ctr: &mut u32, slots: &[Entry<P>], slot: u32) -> Result<Entry<P>, Fault>
-    requires { length slots.now ≡ 32 }
+fn pointed<P: Page>(ctr: &mut u32, slots: &[Entry<P>; 32], slot: u32) -> Result<Entry<P>, Fault>
     ensures seen { result ≡ slot_seen slots.now slot (entry_of P.Page.shape.made 0 0 0) }
     ensures back { ctr.new ≡ ctr.old }
 {

@@ -11,7 +11,7 @@ use crate::unit::{Mmu, Mode, Registers};
 use calls::fault::{Fault, Misuse};
 use mmu::walk::Table;
 use tlb::control::Control;
-use tlb::descriptor::{mark_bits, size_bits};
+use tlb::descriptor::{is_marked, is_sized};
 use tlb::register::{Kind, Register};
 
 // The register of that number, if it takes the word.
@@ -23,8 +23,8 @@ fn check(number: u32, word: u32) -> Result<Register, Fault>
     let misuse = match register {
         Register::Ctr(_) if control.protection_mode() || control.state_compare() => Misuse::Mode,
         Register::Ctr(Kind::Data) if !control.walk_assist() => Misuse::Mode,
-        Register::Twc(_) if size_bits(word) == 2 => Misuse::Size,
-        Register::Rpn(_) if mark_bits(word) != 15 => Misuse::Marks,
+        Register::Twc(_) if !is_sized(word) => Misuse::Size,
+        Register::Rpn(_) if !is_marked(word) => Misuse::Marks,
         _ => return Ok(register),
     };
     Err(Fault::Register {
@@ -55,7 +55,7 @@ impl Mmu {
     }
 
     // Writes a word that is cut to the kept bits. That of an RPN loads.
-    fn set(&mut self, register: Register, word: u32)
+    pub(crate) fn set(&mut self, register: Register, word: u32)
         ensures { self.new ≡ kept_written register word self.old }
     {
         match register {

@@ -7,14 +7,14 @@ use calls::answer::Answer;
 use calls::call::Call;
 use calls::fault::Fault;
 
-#[derive(Clone, Copy)]
+#[derive(Clone, Copy, Debug, PartialEq, Eq)]
 pub enum Request {
     Call(Call),
-    // a look at a slot; kind 0 is instruction, 1 data
+    // a look at a slot; kind 0 is instruction, 1 data. Numbers are as they were given
     Look { kind: u32, slot: u32 },
 }
 
-#[derive(Clone, Copy)]
+#[derive(Clone, Copy, Debug, PartialEq, Eq)]
 pub enum Reply {
     Answer(Answer),
     // what a look saw

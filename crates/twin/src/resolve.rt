@@ -16,14 +16,14 @@ use tlb::register::{Kind, Register};
 
 impl Mmu {
     // A first word that passed goes to MD_TWC, for a fetch to MI_TWC too.
+    #[tactic(auto, using(crate::proofs::Resolving::first_kept))]
     fn keep_first(&mut self, kind: Kind, word: u32)
         ensures { self.new ≡ first_written kind word self.old }
     {
-        self.data.registers.twc = Register::Twc(Kind::Data).keep(word);
-        match kind {
-            Kind::Instruction => self.instruction.registers.twc = Register::Twc(kind).keep(word),
-            Kind::Data => (),
-        }
+        let data = Register::Twc(Kind::Data);
+        self.set(data, data.keep(word));
+        let own = Register::Twc(kind);
+        self.set(own, own.keep(word));
     }
 
     // Walks the tables for an address, and loads what they give. Where the walk stops, what it has kept stays.

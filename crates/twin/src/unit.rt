@@ -4,6 +4,7 @@ ghost use Rattle.std.specs.Fn.{FnOnceReturnsAtMut};
 ghost use Rattle.twin.specs.Access.{translates};
 ghost use Rattle.twin.specs.Unit.{fresh, new_unit, registers, with_registers, space};
 
+use tlb::control::Control;
 use tlb::entry::Entry;
 use tlb::page::{DataPage, InstructionPage, Page};
 use tlb::register::{Kind, Register};
@@ -26,7 +27,7 @@ pub struct Half<P> {
 }
 
 // The privilege, and which translations are on.
-#[derive(Clone, Copy)]
+#[derive(Clone, Copy, Debug, PartialEq, Eq)]
 pub struct Mode {
     pub problem: bool,
     pub instruction: bool,
@@ -64,6 +65,14 @@ impl<P: Page> Half<P> {
             registers,
             slots: [Entry::zero(); 32],
         }
+    }
+}
+
+impl<P> Half<P> {
+    pub(crate) fn control(&self) -> Control
+        ensures { result.0 ≡ self.now.registers.ctr }
+    {
+        Control(self.registers.ctr)
     }
 }
 

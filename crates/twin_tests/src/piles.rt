@@ -1,5 +1,5 @@
 // A life over a pile of banks: tables in ROM behind a bank, RAM elsewhere.
-use crate::replies::told;
+use crate::replies::refused;
 use board::bank::Bank;
 use board::bus::{BusFault, Refusal};
 use board::ram::Ram;
@@ -9,7 +9,7 @@ use calls::call::Call;
 use calls::fault::{Descriptor, Fault, Level};
 use std::test::Fail;
 use twin::life::live;
-use twin::request::Request;
+use twin::request::{Reply, Request};
 
 // The first word stands at 0x8000 and the second at 0x9004, both in ROM, where a poke is refused; one in RAM is not.
 #[test]
@@ -60,11 +60,12 @@ fn tables_in_rom(rt: HostRuntime) -> Result<(), Fail> {
         address: 0x9004,
     };
     let level = Level::Outside;
+    let replies = life.replies.as_slice();
     assert_eq!(rt;
-        told(life.replies.get(0))?,
-        Answer::Refused(Fault::Bus { fault, level })
+        replies.first().copied(),
+        Some(refused(Fault::Bus { fault, level }))
     );
-    assert_eq!(rt; told(life.replies.get(1))?, Answer::Done);
+    assert_eq!(rt; replies.get(1).copied(), Some(Reply::Answer(Answer::Done)));
     let grant = Grant {
         address: 0x5234,
         size: 4096,
@@ -72,13 +73,16 @@ fn tables_in_rom(rt: HostRuntime) -> Result<(), Fail> {
         write_through: false,
         guarded: false,
     };
-    assert_eq!(rt; told(life.replies.get(4))?, Answer::Granted(grant));
+    assert_eq!(rt;
+        replies.get(4).copied(),
+        Some(Reply::Answer(Answer::Granted(grant)))
+    );
     let descriptor = Descriptor::FirstInvalid;
     let stopped = Fault::Walk {
         descriptor,
         address: 0x8004,
     };
-    assert_eq!(rt; told(life.replies.get(5))?, Answer::Refused(stopped));
-    assert_eq!(rt; life.replies.len(), 6);
+    assert_eq!(rt; replies.get(5).copied(), Some(refused(stopped)));
+    assert_eq!(rt; replies.len(), 6);
     Ok(())
 }

@@ -1,17 +1,15 @@
 // What replies tell.
 use calls::answer::Answer;
+use calls::fault::Fault;
 use std::test::Fail;
 use tlb::entry::Entry;
 use tlb::page::DataPage;
 use twin::look::Seen;
 use twin::request::Reply;
 
-// The answer that a reply is.
-pub(crate) fn told(reply: Option<&Reply>) -> Result<Answer, Fail> {
-    match reply {
-        Some(Reply::Answer(answer)) => Ok(*answer),
-        _ => Err(Fail::new("no answer")),
-    }
+// A reply that refuses.
+pub(crate) fn refused(fault: Fault) -> Reply {
+    Reply::Answer(Answer::Refused(fault))
 }
 
 // The data entry that a reply tells of.
