@@ -2,15 +2,15 @@
 ghost use Rattle.std.specs.Prelude.{◌≡◌};
 ghost use Rattle.board.specs.Bus.{at_place};
 
-// Why a peek or a poke is refused, in the order in which the reasons are tested.
+// Why a peek or a poke is refused, in the order in which the reasons are tested; with its number among all faults.
 #[derive(Clone, Copy, Debug, PartialEq, Eq)]
 pub enum Refusal {
     // the address is no multiple of 4
-    Misaligned,
+    Misaligned = 14,
     // the memory has no word there
-    NoWord,
+    NoWord = 15,
     // the word may not be stored to
-    NotStorable,
+    NotStorable = 16,
 }
 
 // A refusal with the address that was put to the memory.

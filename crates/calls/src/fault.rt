@@ -1,10 +1,10 @@
 // How a call is refused.
 ghost use Rattle.std.specs.Prelude.{◌≡◌, Some};
-ghost use Rattle.calls.specs.Fault.{outside, figures_of, bus_number, descriptor_level};
+ghost use Rattle.calls.specs.Fault.{outside, figures_of, descriptor_level};
 ghost use Rattle.calls.specs.Text.{layer_text, fault_text};
 
 use crate::hex::Hex;
-use board::bus::{BusFault, Refusal};
+use board::bus::BusFault;
 use std::fmt;
 
 // Where in a tablewalk a fault arose.
@@ -123,17 +123,6 @@ impl Descriptor {
     }
 }
 
-// The number of a memory's refusal, whose type lies below and has no numbers of its own.
-fn bus_number(refusal: Refusal) -> u32
-    ensures { result ≡ bus_number refusal }
-{
-    match refusal {
-        Refusal::Misaligned => 14,
-        Refusal::NoWord => 15,
-        Refusal::NotStorable => 16,
-    }
-}
-
 impl Fault {
     // The number, layer, level and place of the fault.
     pub fn figures(self) -> Figures
@@ -153,7 +142,7 @@ impl Fault {
                 address,
             } => (descriptor as u32, Layer::Walk, descriptor.level(), address),
             Fault::Bus { fault, level } => {
-                (bus_number(fault.refusal), Layer::Bus, level, fault.address)
+                (fault.refusal as u32, Layer::Bus, level, fault.address)
             }
             Fault::Unreadable { line } => (18, Layer::Script, Level::Outside, line),
             Fault::TooLong => (19, Layer::Script, Level::Outside, 0),

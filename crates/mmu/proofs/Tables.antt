@@ -6,7 +6,7 @@ use Rattle.calls.specs.declared.fault.Descriptor.{Descriptor}
 use Rattle.calls.specs.declared.fault.Fault.{Fault}
 use Rattle.calls.specs.declared.fault.Level.{Level}
 use Rattle.mmu.proofs.Places.{field_small}
-use Rattle.mmu.specs.Walk.{first_word, second_word, at_level, stops, onward, index_in, address_in, level_of, flaw_in, word_in}
+use Rattle.mmu.specs.Walk.{first_word, second_word, at_level, stops, onward, index_in, address_in, level_of, flaw_in, table_word}
 use Rattle.tlb.specs.Descriptor.{sized, marked}
 use Rattle.mmu.specs.declared.walk.Table.{Table}
 use Rattle.mmu.specs.declared.walk.Table.TheVariants.{First, Second}
@@ -35,7 +35,7 @@ alike : (r : Result ℕ BusFault) (l : Level) (f g : ℕ → Result ℕ Fault) �
 alike (Ok w) l f g same = same w
 alike (Err x) l f g same = refl
 
-pub word_is : (t : Table) (m : Meaning) (base e : ℕ) → word_in t m base e ≡ onward (at_level (level_of t) (peeked m (address_in t base e))) (λ w. by_flaw (flaw_in t w) (address_in t base e) w)
+pub word_is : (t : Table) (m : Meaning) (base e : ℕ) → table_word t m base e ≡ onward (at_level (level_of t) (peeked m (address_in t base e))) (λ w. by_flaw (flaw_in t w) (address_in t base e) w)
 unfolding first_word second_word
 word_is First m base e = alike (peeked m (address_in First base e)) _ _ _ (λ w. tested (flag 31 w) (sized w) _ _ _ w)
 word_is Second m base e = alike (peeked m (address_in Second base e)) _ _ _ (λ w. tested (flag 31 w) (marked w) _ _ _ w)

@@ -63,9 +63,9 @@ first_word m base e = onward (at_level levels.First (peeked m (first_address bas
 unfoldable pub second_word : Meaning → ℕ → ℕ → Result ℕ Fault
 second_word m first e = onward (at_level levels.Second (peeked m (second_address first e))) (second_tested (second_address first e))
 
-abbrev pub word_in : Table → Meaning → ℕ → ℕ → Result ℕ Fault
-word_in First m base e = first_word m base e
-word_in Second m base e = second_word m base e
+abbrev pub table_word : Table → Meaning → ℕ → ℕ → Result ℕ Fault
+table_word First m base e = first_word m base e
+table_word Second m base e = second_word m base e
 
 -- the reading of e: the fault at which the walk stops, or the page made of e and the two words
 abbrev pub reading_of : {P : Type 0} → (ℕ → ℕ → ℕ → P) → Meaning → ℕ → ℕ → Result P Fault

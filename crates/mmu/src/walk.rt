@@ -1,6 +1,6 @@
 // The tablewalk, over any memory.
 ghost use Rattle.std.specs.Prelude.{◌≡◌};
-ghost use Rattle.mmu.specs.Walk.{index_in, address_in, level_of, flaw_in, word_in, reading_of};
+ghost use Rattle.mmu.specs.Walk.{index_in, address_in, level_of, flaw_in, table_word, reading_of};
 
 use board::memory::Memory;
 use calls::fault::{Descriptor, Fault, Level};
@@ -16,6 +16,18 @@ const BASE: u32 = 0xffff_f000;
 pub enum Table {
     First,
     Second,
+}
+
+// The level of a fault that arises at the table.
+impl From<Table> for Level {
+    ghost from_gives = { λ t l. l ≡ level_of t };
+
+    fn from(table: Table) -> Level {
+        match table {
+            Table::First => Level::First,
+            Table::Second => Level::Second,
+        }
+    }
 }
 
 impl Table {
@@ -38,15 +50,6 @@ impl Table {
         (base & BASE) | (self.index(address) << 2)
     }
 
-    fn level(self) -> Level
-        ensures { result ≡ level_of self }
-    {
-        match self {
-            Table::First => Level::First,
-            Table::Second => Level::Second,
-        }
-    }
-
     // Why a word stops the walk: a first one that is not valid or names no size, a second one that is not valid or whose
     // mark bits are not all one.
     fn flaw(self, word: u32) -> Option<Descriptor>
@@ -64,9 +67,9 @@ impl Table {
     // The word for an address, if the walk goes on with it.
     #[tactic(auto, using(crate::proofs::Tables::word_is), unfolding(crate::proofs::Tables::by_flaw))]
     pub fn word<M: Memory>(self, memory: &M, base: u32, address: u32) -> Result<u32, Fault>
-        ensures { result ≡ word_in self (M.Memory.meaning memory.now) base address }
+        ensures { result ≡ table_word self (M.Memory.meaning memory.now) base address }
     {
-        let level = self.level();
+        let level = Level::from(self);
         let place = self.place(base, address);
         let word = memory
             .peek(place)
