@@ -15,11 +15,11 @@ const KEPT: u32 = 0xffff_8000;
 // All others go to the second, as they are. Under the protect flag nothing in the first can be stored to.
 #[derive(Drop)]
 pub struct Bank<A, B> {
-    pub base: u32,
-    pub mask: u32,
-    pub protect: bool,
-    pub first: A,
-    pub second: B,
+    base: u32,
+    mask: u32,
+    protect: bool,
+    first: A,
+    second: B,
 }
 
 // Stores to a memory behind a protect flag.

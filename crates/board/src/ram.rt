@@ -12,7 +12,7 @@ use crate::memory::Memory;
 // The words of the lent bytes, all of them storable.
 #[derive(Drop)]
 pub struct Ram<'a> {
-    pub bytes: &'a mut [u8],
+    bytes: &'a mut [u8],
 }
 
 impl<'a> Ram<'a> {

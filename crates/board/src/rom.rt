@@ -12,7 +12,7 @@ use crate::memory::Memory;
 // The words of the lent bytes; none of them can be stored to.
 #[derive(Clone, Copy, Debug)]
 pub struct Rom<'a> {
-    pub bytes: &'a [u8],
+    bytes: &'a [u8],
 }
 
 impl<'a> Rom<'a> {

@@ -6,8 +6,9 @@ use crate::ram::Ram;
 use crate::rom::Rom;
 use crate::void::Void;
 
+// Written out: the memories make their refusals with `Refusal::at`.
 fn refused<T>(refusal: Refusal, address: u32) -> Result<T, BusFault> {
-    Err(refusal.at(address))
+    Err(BusFault { refusal, address })
 }
 
 #[test]

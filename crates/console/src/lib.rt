@@ -1,7 +1,7 @@
 // What both programs share: a script comes from standard input, its account goes to standard output.
 #![tactic(auto)]
 
-ghost use Rattle.std.specs.Prelude.{◌≡◌, IfOk, IfSome, Ok, OnOk, replicate};
+ghost use Rattle.std.specs.Prelude.{◌≡◌, IfOk, IfSome, Ok, OnOk, replicate, take};
 ghost use Rattle.script.specs.Reader.{script_of};
 
 use script::reader::LONGEST;
@@ -14,7 +14,8 @@ const RAM: usize = 32_768;
 
 // As much of the input as tells what the script reads as: one byte more than the longest script tells that there is more.
 pub fn read_script<I: Read + Drop>(heap: Global, input: I) -> io::Result<Vec<u8>>
-    ensures { IfOk result (λ v. IfSome (I.Read.remaining input) (λ bytes. script_of v.items ≡ script_of bytes)) }
+    ensures first { IfOk result (λ v. IfSome (I.Read.remaining input) (λ bytes. v.items ≡ take 65537 bytes)) }
+    ensures enough { IfOk result (λ v. IfSome (I.Read.remaining input) (λ bytes. script_of v.items ≡ script_of bytes)) }
 {
     let mut script = Vec::new(heap);
     input.take(LONGEST as u64 + 1).read_to_end(&mut script)?;

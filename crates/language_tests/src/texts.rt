@@ -5,6 +5,7 @@ use calls::call::Call;
 use calls::fault::{Fault, Level};
 use std::process::Abort;
 use std::test::Fail;
+use text::answer_line::add_answer;
 use text::answers::answer_text;
 use text::canonical::call_text;
 
@@ -52,6 +53,15 @@ fn answers_print(rt: HostRuntime) -> Result<(), Fail> {
         guarded: false,
     };
     prints(&rt, Answer::Granted(grant), "(grant 0x00005234 4096 0 1 0)")
+}
+
+#[test]
+fn lines_are_added(rt: HostRuntime) -> Result<(), Fail> {
+    let mut account = String::new(rt.alloc());
+    add_answer(Answer::Value(42), &mut account)?;
+    add_answer(Answer::Miss, &mut account)?;
+    assert_eq!(rt; account.as_str(), "(value 0x0000002a)\n(miss)\n");
+    Ok(())
 }
 
 #[test]

@@ -1,51 +1,40 @@
 -- Laws of cutting at a separator. Assumes nothing.
-use Rattle.std.proofs.Common.{◌≡◌, ℕ, suc, add-one, ◌+◌, ◌<◌, ◌≤◌, eqb, Bool, true, false, List, [], ◌∷◌, length, take, drop, Some, None, refl, arith}
+use Rattle.std.proofs.Common.{◌≡◌, ℕ, ◌+◌, ◌<◌, eqb, Bool, true, false, cond, List, [], ◌∷◌, ◌++◌, length, Option, Some, None, Bor, MatchBool, MatchOption, ap, ◌∙◌, refl, arith}
 use Rattle.std.proofs.lemmas.Bool.{cond_both}
-use Rattle.std.proofs.lemmas.Bool.Decides.{nat_tests}
 use Rattle.std.proofs.lemmas.Grind.{common_steps}
-use Rattle.std.specs.List.{position, position_or_len}
-use Rattle.script.specs.Pieces.{before, split}
+use Rattle.std.proofs.lemmas.List.Elements.{All-head, All-tail}
+use Rattle.std.specs.List.{All, IsFirstMatchOrLen}
+use Rattle.script.specs.Pieces.{before, split, remains}
 use Rattle.script.specs.Room.{weight}
 
 -- a byte that is no separator comes before the first piece
 cut_more : (sep b : ℕ) (bs p : List ℕ) (ps : List (List ℕ)) → eqb b sep ≡ false → split sep bs ≡ p ∷ ps → split sep (b ∷ bs) ≡ (b ∷ p) ∷ ps
 cut_more sep b bs p ps e cut = grind (arith, common_steps)
 
--- the place of the first separator, or the length
-abbrev place : ℕ → List ℕ → ℕ
-place sep bs = position_or_len (λ b. eqb b sep) bs
+-- bytes without a separator are one piece
+whole : (sep : ℕ) (bs : List ℕ) → All (λ b. eqb b sep ≡ false) bs → split sep bs ≡ bs ∷ []
+whole sep [] h = refl
+whole sep (b ∷ bs) h = cut_more sep b bs bs [] (All-head (λ c. eqb c sep ≡ false) b bs h) (whole sep bs (All-tail (λ c. eqb c sep ≡ false) b bs h))
 
-abbrev CutAt : ℕ → List ℕ → ℕ → Type 0
-CutAt sep bs i = split sep bs ≡ take i bs ∷ split sep (drop (i + 1) bs)
+-- bytes without a separator in front of one are a piece, and the others follow
+in_front : (sep : ℕ) (x : List ℕ) (y : ℕ) (rest : List ℕ) → All (λ b. eqb b sep ≡ false) x → eqb y sep ≡ true → split sep (x ++ (y ∷ rest)) ≡ x ∷ split sep rest
+in_front sep [] y rest h e = ap (λ t. cond t ([] ∷ split sep rest) (before (y ∷ []) (split sep rest))) e
+in_front sep (b ∷ x) y rest h e = cut_more sep b (x ++ (y ∷ rest)) x (split sep rest) (All-head (λ c. eqb c sep ≡ false) b x h) (in_front sep x y rest (All-tail (λ c. eqb c sep ≡ false) b x h) e)
 
-one_on : (sep b : ℕ) (bs : List ℕ) (i j : ℕ) → eqb b sep ≡ false → CutAt sep bs i → j ≡ suc i → CutAt sep (b ∷ bs) j
-one_on sep b bs i j e cut is = rw (is, add-one) (cut_more sep b bs _ _ e (rw add-one at cut))
+-- the first piece ends at the first separator, or is all there is
+first_piece : (sep : ℕ) (bs x rest : List ℕ) (last : Bool) → MatchBool last (bs ≡ x) ((y : ℕ) × (bs ≡ x ++ (y ∷ rest))) → IsFirstMatchOrLen (λ b. eqb b sep) bs (length x) → split sep bs ≡ x ∷ cond last [] (split sep rest)
+first_piece sep bs x rest true e first = whole sep bs (λ k d l. first.0 k d (omega arith) (omega (arith, ap length e, l))) ∙ ap (λ p. p ∷ []) e
+first_piece sep bs x rest false e first =
+    let is = e.1 in
+    let front : All (λ b. eqb b sep ≡ false) x = λ k d l. let none = first.0 k d (omega arith) l in grind (arith, common_steps) in
+    let ends : eqb e.0 sep ≡ true = let hit = first.1 (grind (arith, common_steps)) e.0 in grind (arith, common_steps) in
+    ap (split sep) is ∙ in_front sep x e.0 rest front ends
 
-some_more : (sep b : ℕ) (bs : List ℕ) (t : Bool) → eqb b sep ≡ t → (place sep bs < length bs → CutAt sep bs (place sep bs)) → place sep (b ∷ bs) < length (b ∷ bs) → CutAt sep (b ∷ bs) (place sep (b ∷ bs))
-some_more sep b bs true e rec h = rw e (grind (arith, common_steps))
-some_more sep b bs false e rec h =
-    let on : place sep (b ∷ bs) ≡ suc (place sep bs) = grind (arith, common_steps) in
-    one_on sep b bs (place sep bs) _ e (rec (omega arith)) on
-
-none_more : (sep b : ℕ) (bs : List ℕ) (t : Bool) → eqb b sep ≡ t → (length bs ≤ place sep bs → split sep bs ≡ bs ∷ []) → length (b ∷ bs) ≤ place sep (b ∷ bs) → split sep (b ∷ bs) ≡ (b ∷ bs) ∷ []
-none_more sep b bs true e rec h = grind (arith, common_steps)
-none_more sep b bs false e rec h = grind (arith, common_steps, cut_more)
-
-found : (sep : ℕ) (bs : List ℕ) → place sep bs < length bs → CutAt sep bs (place sep bs)
-found sep [] h = absurd (omega arith)
-found sep (b ∷ bs) h = some_more sep b bs (eqb b sep) refl (found sep bs) h
-
-missing : (sep : ℕ) (bs : List ℕ) → length bs ≤ place sep bs → split sep bs ≡ bs ∷ []
-missing sep [] h = refl
-missing sep (b ∷ bs) h = none_more sep b bs (eqb b sep) refl (missing sep bs) h
-
--- the first piece ends at the first separator
-pub cut_some : (sep : ℕ) (bs : List ℕ) (i : ℕ) → position (λ b. eqb b sep) bs ≡ Some i → split sep bs ≡ take i bs ∷ split sep (drop (i + 1) bs)
-cut_some sep bs i e = grind (arith, common_steps, nat_tests, found)
-
--- where there is none, all is one piece
-pub cut_none : (sep : ℕ) (bs : List ℕ) → position (λ b. eqb b sep) bs ≡ None → split sep bs ≡ bs ∷ []
-cut_none sep bs e = grind (arith, common_steps, nat_tests, missing)
+-- the first piece, and what is left behind its separator if there is one
+pub cut_in_two : (sep : ℕ) (bs x rest : List ℕ) (last : Bool) (left : Option (Bor (List ℕ))) → MatchBool last (bs ≡ x) ((y : ℕ) × (bs ≡ x ++ (y ∷ rest))) → IsFirstMatchOrLen (λ b. eqb b sep) bs (length x)
+    → MatchOption left (last ≡ true) (λ b. (last ≡ false) × (rest ≡ b.now)) → split sep bs ≡ x ∷ remains sep left
+cut_in_two sep bs x rest last None cut first none = first_piece sep bs x rest last cut first ∙ ap (λ t. x ∷ cond t [] (split sep rest)) none
+cut_in_two sep bs x rest last (Some b) cut first some = first_piece sep bs x rest last cut first ∙ ap (λ t. x ∷ cond t [] (split sep rest)) some.0 ∙ ap (λ r. x ∷ split sep r) some.1
 
 weight_before : (b : ℕ) (ps : List (List ℕ)) → 0 < weight ps → weight (before (b ∷ []) ps) ≡ weight ps + 1
 weight_before b [] h = absurd (omega arith)

@@ -27,13 +27,9 @@ impl<'a> Model for Pieces<'a> {
 fn cut(bytes: &[u8], separator: u8) -> (&[u8], Option<&[u8]>)
     ensures { split separator bytes.now ≡ result.0.now ∷ remains separator result.1 }
 {
-    match bytes.iter().position(|byte| *byte == separator) {
-        Some(i) => {
-            let (piece, rest) = bytes.split_at(i);
-            (piece, Some(&rest[1..]))
-        }
-        None => (bytes, None),
-    }
+    let mut parts = bytes.splitn(2, |byte| *byte == separator);
+    let piece = parts.next().unwrap_or(bytes);
+    (piece, parts.next())
 }
 
 impl<'a> Pieces<'a> {

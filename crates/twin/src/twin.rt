@@ -19,8 +19,8 @@ use calls::fault::Fault;
 // them: both speak of a twin before and after it, which no type can.
 #[derive(Drop)]
 pub struct Twin<'a, M> {
-    pub unit: Mmu,
-    pub memory: &'a mut M,
+    unit: Mmu,
+    memory: &'a mut M,
 }
 
 impl<'a, M: Memory> Twin<'a, M> {
