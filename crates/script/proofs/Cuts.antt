@@ -1,40 +1,42 @@
 -- Laws of cutting at a separator. Assumes nothing.
-use Rattle.std.proofs.Common.{◌≡◌, ℕ, ◌+◌, ◌<◌, eqb, Bool, true, false, cond, List, [], ◌∷◌, ◌++◌, length, Option, Some, None, Bor, MatchBool, MatchOption, ap, ◌∙◌, refl, arith}
-use Rattle.std.proofs.lemmas.Bool.{cond_both}
-use Rattle.std.proofs.lemmas.Grind.{common_steps}
-use Rattle.std.proofs.lemmas.List.Elements.{All-head, All-tail}
-use Rattle.std.specs.List.{All, IsFirstMatchOrLen}
-use Rattle.script.specs.Pieces.{before, split, remains}
+use Rattle.std.proofs.Common.{◌≡◌, ℕ, ◌+◌, ◌<◌, ◌≤◌, cond, eqb, List, [], ◌∷◌, ◌++◌, length, get_or, take, drop, sym, refl, ap, ◌∙◌, arith}
+use Rattle.std.proofs.lemmas.List.{append-nil, append_assoc, at_drop_more, at_drop_all, take_more, take_all}
+use Rattle.std.proofs.lemmas.Bool.{eq-eqb, ne_eqb, cond_both}
+use Rattle.script.specs.Pieces.{before, split}
 use Rattle.script.specs.Room.{weight}
 
--- a byte that is no separator comes before the first piece
-cut_more : (sep b : ℕ) (bs p : List ℕ) (ps : List (List ℕ)) → eqb b sep ≡ false → split sep bs ≡ p ∷ ps → split sep (b ∷ bs) ≡ (b ∷ p) ∷ ps
-cut_more sep b bs p ps e cut = grind (arith, common_steps)
+before_before : (xs ys : List ℕ) (ps : List (List ℕ)) → before (xs ++ ys) ps ≡ before xs (before ys ps)
+before_before xs ys [] = refl
+before_before xs ys (p ∷ ps) = ap (λ q. q ∷ ps) (append_assoc xs ys p)
 
--- bytes without a separator are one piece
-whole : (sep : ℕ) (bs : List ℕ) → All (λ b. eqb b sep ≡ false) bs → split sep bs ≡ bs ∷ []
-whole sep [] h = refl
-whole sep (b ∷ bs) h = cut_more sep b bs bs [] (All-head (λ c. eqb c sep ≡ false) b bs h) (whole sep bs (All-tail (λ c. eqb c sep ≡ false) b bs h))
+before_none : (ps : List (List ℕ)) → before [] ps ≡ ps
+before_none [] = refl
+before_none (p ∷ ps) = refl
 
--- bytes without a separator in front of one are a piece, and the others follow
-in_front : (sep : ℕ) (x : List ℕ) (y : ℕ) (rest : List ℕ) → All (λ b. eqb b sep ≡ false) x → eqb y sep ≡ true → split sep (x ++ (y ∷ rest)) ≡ x ∷ split sep rest
-in_front sep [] y rest h e = ap (λ t. cond t ([] ∷ split sep rest) (before (y ∷ []) (split sep rest))) e
-in_front sep (b ∷ x) y rest h e = cut_more sep b (x ++ (y ∷ rest)) x (split sep rest) (All-head (λ c. eqb c sep ≡ false) b x h) (in_front sep x y rest (All-tail (λ c. eqb c sep ≡ false) b x h) e)
+-- no separator so far: the bytes up to i come before what is cut from there
+abbrev pub Uncut : ℕ → List ℕ → ℕ → Type 0
+Uncut sep bs i = split sep bs ≡ before (take i bs) (split sep (drop i bs))
 
--- the first piece ends at the first separator, or is all there is
-first_piece : (sep : ℕ) (bs x rest : List ℕ) (last : Bool) → MatchBool last (bs ≡ x) ((y : ℕ) × (bs ≡ x ++ (y ∷ rest))) → IsFirstMatchOrLen (λ b. eqb b sep) bs (length x) → split sep bs ≡ x ∷ cond last [] (split sep rest)
-first_piece sep bs x rest true e first = whole sep bs (λ k d l. first.0 k d (omega arith) (omega (arith, ap length e, l))) ∙ ap (λ p. p ∷ []) e
-first_piece sep bs x rest false e first =
-    let is = e.1 in
-    let front : All (λ b. eqb b sep ≡ false) x = λ k d l. let none = first.0 k d (omega arith) l in grind (arith, common_steps) in
-    let ends : eqb e.0 sep ≡ true = let hit = first.1 (grind (arith, common_steps)) e.0 in grind (arith, common_steps) in
-    ap (split sep) is ∙ in_front sep x e.0 rest front ends
+module _ (sep : ℕ) (bs : List ℕ) where
+  pub uncut_none : Uncut sep bs 0
+  uncut_none = sym (before_none (split sep bs))
 
--- the first piece, and what is left behind its separator if there is one
-pub cut_in_two : (sep : ℕ) (bs x rest : List ℕ) (last : Bool) (left : Option (Bor (List ℕ))) → MatchBool last (bs ≡ x) ((y : ℕ) × (bs ≡ x ++ (y ∷ rest))) → IsFirstMatchOrLen (λ b. eqb b sep) bs (length x)
-    → MatchOption left (last ≡ true) (λ b. (last ≡ false) × (rest ≡ b.now)) → split sep bs ≡ x ∷ remains sep left
-cut_in_two sep bs x rest last None cut first none = first_piece sep bs x rest last cut first ∙ ap (λ t. x ∷ cond t [] (split sep rest)) none
-cut_in_two sep bs x rest last (Some b) cut first some = first_piece sep bs x rest last cut first ∙ ap (λ t. x ∷ cond t [] (split sep rest)) some.0 ∙ ap (λ r. x ∷ split sep r) some.1
+  pub uncut_more : (i : ℕ) → i < length bs → (get_or bs i 0 ≡ sep → ⊥) → Uncut sep bs i → Uncut sep bs (i + 1)
+  uncut_more i h ne u =
+      u
+      ∙ ap (before (take i bs)) (at_drop_more (split sep) bs i 0 h ∙ ap (λ t. cond t ([] ∷ split sep (drop (i + 1) bs)) (before (get_or bs i 0 ∷ []) (split sep (drop (i + 1) bs)))) (ne_eqb _ _ ne))
+      ∙ sym (before_before (take i bs) (get_or bs i 0 ∷ []) (split sep (drop (i + 1) bs)))
+      ∙ ap (λ l. before l (split sep (drop (i + 1) bs))) (sym (take_more bs i 0 h))
+
+  -- the first separator is at i
+  pub cut_here : (i : ℕ) → i < length bs → get_or bs i 0 ≡ sep → Uncut sep bs i → split sep bs ≡ take i bs ∷ split sep (drop (i + 1) bs)
+  cut_here i h e u =
+      u
+      ∙ ap (before (take i bs)) (at_drop_more (split sep) bs i 0 h ∙ ap (λ t. cond t ([] ∷ split sep (drop (i + 1) bs)) (before (get_or bs i 0 ∷ []) (split sep (drop (i + 1) bs)))) (eq-eqb _ _ e))
+      ∙ ap (λ l. l ∷ split sep (drop (i + 1) bs)) (append-nil (take i bs))
+
+  pub cut_nowhere : (i : ℕ) → length bs ≤ i → Uncut sep bs i → split sep bs ≡ bs ∷ []
+  cut_nowhere i h u = u ∙ ap (before (take i bs)) (at_drop_all (split sep) bs i h) ∙ ap (λ l. l ∷ []) (append-nil (take i bs) ∙ take_all i bs h)
 
 weight_before : (b : ℕ) (ps : List (List ℕ)) → 0 < weight ps → weight (before (b ∷ []) ps) ≡ weight ps + 1
 weight_before b [] h = absurd (omega arith)
